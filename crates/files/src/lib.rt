@@ -1,0 +1,3 @@
+// Sheets in files.
+pub mod reading;
+pub mod sheet_file;

@@ -1,0 +1,11 @@
+pub mod Deciding
+pub mod Agreement
+pub mod Choosing
+pub mod Writing
+pub mod Telling
+pub mod Resting
+pub mod Characterised
+pub mod Reaching
+pub mod Nearing
+pub mod Working
+pub mod Tracing

@@ -1,0 +1,5 @@
+pub mod Cutting
+pub mod Going
+pub mod Numbering
+pub mod Verdicts
+pub mod Ways

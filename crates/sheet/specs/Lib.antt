@@ -1,0 +1,4 @@
+pub mod Parts
+pub mod Cursors
+pub mod Lines
+pub mod Reading

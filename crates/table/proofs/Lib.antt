@@ -1,0 +1,4 @@
+pub mod Arranging
+pub mod Asking
+pub mod Counting
+pub mod Limiting

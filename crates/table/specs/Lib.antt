@@ -1,0 +1,3 @@
+pub mod Meaning
+pub mod Index
+pub mod Answers
