@@ -2,8 +2,8 @@
 use mathlib.Core.Path.{_≡_, refl, ap, subst}
 use mathlib.Core.Bool.{cond}
 use mathlib.Core.List.{List, [], _∷_, _++_, map}
-use mathlib.Core.Logic.{inl, inr, ⊎-elim}
-use Prim.Native.Nat.{ℕ, suc, _+_, _-_, _≤_}
+use mathlib.Core.Logic.{_⊎_, inl, inr, ⊎-elim, _↔_}
+use Prim.Native.Nat.{ℕ, suc, _+_, _-_, _≤_, max}
 use native.Mathlib.Omega.{arith}
 use lib.Dec.{eqb, eqb·suc-zero}
 use lib.ListN.{length, getD, take, drop, length-append}
@@ -13,7 +13,7 @@ use Rattle.lts.specs.Lts.{Lts}
 use Rattle.hml.specs.Logic.{Formula, Sat, steps, Separates}
 use Rattle.hml.specs.Logic.Formula.{tru, both, either}
 use Rattle.hml.specs.Bisimilarity.{Agree}
-use Rattle.hml.specs.Distinguishing.{targets, Chosen, Written, LinesFor, all, any, modal, linesFrom, formulaOfLines}
+use Rattle.hml.specs.Distinguishing.{targets, Chosen, Written, LinesFor, allFrom, all, anyFrom, any, modal, linesFrom, formulaOfLines}
 use Rattle.hml.specs.Distinguishing.Chosen.{by-may, by-must}
 use Rattle.hml.specs.Distinguishing.Written.{none, line}
 use Rattle.hml.specs.declared.line.Modality.{Modality}
@@ -55,14 +55,39 @@ module _ (m : Lts) where
   begin-right (p ∷ ps) qs [] h = absurd h
   begin-right (p ∷ ps) qs (f ∷ fs) h = begin-right ps qs fs (h .1)
 
+  -- Joined formulas hold where the first and the others do, or one of them does, and have the steps of the deepest.
+  all-from : (s : ℕ) (f : Formula) (fs : List Formula) → Sat m s (allFrom f fs) ↔ (Sat m s f × Sat m s (all fs))
+  all-from s f [] = (λ x. (x, tt), λ x. x .0)
+  all-from s f (g ∷ gs) =
+      let rest = all-from s (both f g) gs in
+      let behind = all-from s g gs in
+      (λ x. (rest .0 x .0 .0, behind .1 (rest .0 x .0 .1, rest .0 x .1)), λ x. rest .1 ((x .0, behind .0 (x .1) .0), behind .0 (x .1) .1))
+
+  any-from : (s : ℕ) (f : Formula) (fs : List Formula) → Sat m s (anyFrom f fs) ↔ (Sat m s f ⊎ Sat m s (any fs))
+  any-from s f [] = (inl, ⊎-elim (λ x. x) (λ x. absurd x))
+  any-from s f (g ∷ gs) =
+      let rest = any-from s (either f g) gs in
+      let behind = any-from s g gs in (
+        λ x. ⊎-elim (⊎-elim inl (λ y. inr (behind .1 (inl y)))) (λ y. inr (behind .1 (inr y))) (rest .0 x),
+        ⊎-elim (λ y. rest .1 (inl (inl y))) (λ y. ⊎-elim (λ z. rest .1 (inl (inr z))) (λ z. rest .1 (inr z)) (behind .0 y)),
+      )
+
+  steps-from : (f : Formula) (fs : List Formula) → (steps (allFrom f fs) ≡ max (steps f) (steps (all fs))) × (steps (anyFrom f fs) ≡ max (steps f) (steps (any fs)))
+  steps-from f [] = (omega arith, omega arith)
+  steps-from f (g ∷ gs) =
+      let behind = steps-from g gs in
+      (omega (arith, behind .0, steps-from (both f g) gs .0), omega (arith, behind .1, steps-from (either f g) gs .1))
+
   -- Formulas that are good for pairs with the same first state all hold of it, and fail together of each second.
   all-holds : (u : ℕ) (vs : List ℕ) (fs : List Formula) → Goods (map (λ v. (u, v)) vs) fs → Sat m u (all fs) × All (λ v. ¬ Sat m v (all fs)) vs
   all-holds u [] [] h = (tt, tt)
   all-holds u [] (f ∷ fs) h = absurd h
   all-holds u (v ∷ vs) [] h = absurd h
   all-holds u (v ∷ vs) (f ∷ fs) h =
-      let rest = all-holds u vs fs (h .1) in
-      ((h .0 .0, rest .0), (λ x. h .0 .1 (x .0), all-weaker (λ w. ¬ Sat m w (all fs)) (λ w. ¬ Sat m w (both f (all fs))) (λ w n x. n (x .1)) vs (rest .1)))
+      let rest = all-holds u vs fs (h .1) in (
+        all-from u f fs .1 (h .0 .0, rest .0),
+        (λ x. h .0 .1 (all-from v f fs .0 x .0), all-weaker (λ w. ¬ Sat m w (all fs)) (λ w. ¬ Sat m w (allFrom f fs)) (λ w n x. n (all-from w f fs .0 x .1)) vs (rest .1)),
+      )
 
   -- Of those with the same second state one holds of each first, and none of the second.
   any-holds : (v : ℕ) (us : List ℕ) (fs : List Formula) → Goods (map (λ u. (u, v)) us) fs → (¬ Sat m v (any fs)) × All (λ u. Sat m u (any fs)) us
@@ -70,15 +95,20 @@ module _ (m : Lts) where
   any-holds v [] (f ∷ fs) h = absurd h
   any-holds v (u ∷ us) [] h = absurd h
   any-holds v (u ∷ us) (f ∷ fs) h =
-      let rest = any-holds v us fs (h .1) in
-      (λ x. ⊎-elim (h .0 .1) (rest .0) x, (inl (h .0 .0), all-weaker (λ w. Sat m w (any fs)) (λ w. Sat m w (either f (any fs))) (λ w y. inr y) us (rest .1)))
+      let rest = any-holds v us fs (h .1) in (
+        λ x. ⊎-elim (h .0 .1) (rest .0) (any-from v f fs .0 x),
+        (any-from u f fs .1 (inl (h .0 .0)), all-weaker (λ w. Sat m w (any fs)) (λ w. Sat m w (anyFrom f fs)) (λ w y. any-from w f fs .1 (inr y)) us (rest .1)),
+      )
 
   -- No more nested steps than a depth to which none of the pairs agrees.
   few-steps : (d : ℕ) (ps : List (ℕ × ℕ)) (fs : List Formula) → All (λ p. ¬ Agree m d (p .0) (p .1)) ps → Goods ps fs → (steps (all fs) ≤ d) × (steps (any fs) ≤ d)
   few-steps d [] [] n h = (omega arith, omega arith)
   few-steps d [] (f ∷ fs) n h = absurd h
   few-steps d (p ∷ ps) [] n h = absurd h
-  few-steps d (p ∷ ps) (f ∷ fs) n h = let rest = few-steps d ps fs (n .1) (h .1) in let one = h .0 .2 d (n .0) in (omega arith, omega arith)
+  few-steps d (p ∷ ps) (f ∷ fs) n h =
+      let rest = few-steps d ps fs (n .1) (h .1) in
+      let one = h .0 .2 d (n .0) in
+      (omega (arith, steps-from f fs .0, rest .0), omega (arith, steps-from f fs .1, rest .1))
 
   -- From good formulas for the children, one for the pair.
   modal-good : (s t a : ℕ) (o : Modality) (cs : List (ℕ × ℕ)) (fs : List Formula) → Chosen m s t o a cs → Goods cs fs → Good (s, t) (modal o a fs)

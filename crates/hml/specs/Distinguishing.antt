@@ -53,15 +53,25 @@ pub data Written (m : Lts) : ℕ → List (ℕ × ℕ) → List Line → Type 0 
 abbrev pub LinesFor : Lts → ℕ → ℕ → List Line → Type 0
 LinesFor m s t ls = Written m 1 ((s, t) ∷ []) ls
 
--- All of the formulas hold; tru of none.
+-- The first formula and the others joined by and, grouping left.
+abbrev pub allFrom : Formula → List Formula → Formula
+allFrom f [] = f
+allFrom f (g ∷ gs) = allFrom (both f g) gs
+
+-- All of the formulas; tru of none.
 abbrev pub all : List Formula → Formula
 all [] = tru
-all (f ∷ fs) = both f (all fs)
+all (f ∷ fs) = allFrom f fs
 
--- Some of the formulas holds; fls of none.
+-- The first formula and the others joined by or, grouping left.
+abbrev pub anyFrom : Formula → List Formula → Formula
+anyFrom f [] = f
+anyFrom f (g ∷ gs) = anyFrom (either f g) gs
+
+-- Any of the formulas; fls of none.
 abbrev pub any : List Formula → Formula
 any [] = fls
-any (f ∷ fs) = either f (any fs)
+any (f ∷ fs) = anyFrom f fs
 
 -- May a is followed by all the lines counted, must a by any of them.
 abbrev pub modal : Modality → ℕ → List Formula → Formula
