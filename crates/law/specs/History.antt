@@ -1,11 +1,11 @@
 -- Histories of a bench from its opening on, with every call written down, and what holds of all that was answered.
 -- Assumes nothing.
 use mathlib.Core.Path.{_≡_}
-use mathlib.Core.Bool.{Bool, true, cond}
+use mathlib.Core.Bool.{Bool, true}
 use mathlib.Core.Logic.{_↔_}
-use mathlib.Core.List.{List, [], _∷_, _++_, map}
-use Prim.Native.Nat.{ℕ, _+_, _-_, _≤_, _<_}
-use lib.Dec.{T, ltb}
+use mathlib.Core.List.{List, [], _∷_, _++_}
+use Prim.Native.Nat.{ℕ, _≤_, _<_}
+use lib.Dec.{T}
 use lib.ListN.{length, take}
 use Rattle.std.specs.declared.option.Option.{Option}
 use Rattle.std.specs.declared.option.Option.the-variants.{Some, None}
@@ -41,7 +41,7 @@ pub data Phase : Type 0 where
   Open : Phase
   Settled : Phase
 
--- The entries held after the calls of a log, which has the newest first: an answered enter alone changes them.
+-- The entries held after the calls of a list, which has the newest first: an answered enter alone changes them.
 abbrev pub entriesHeld : List Call → List Entry
 entriesHeld [] = []
 entriesHeld (enter list (Ok n) ∷ h) = appended (entriesHeld h) list
@@ -63,7 +63,8 @@ AsDefined m es (reach f s before after r) = Reached m es f s before after r
 AsDefined m es (alike s t r) = Compared m s t r
 AsDefined m es (tell s t before after r) = Told m s t before after r
 
--- The histories that the bench's types let in, from the opening on: each call answered as defined. φ is the phase that they lead to.
+-- The histories that the bench's types let in, from the opening on: each call answered as defined. The phase is that to
+-- which they lead.
 pub data History (m : Lts) : Phase → List Call → Type 0 where
   opened : History m Open []
   entered : {h : List Call} (list : List Entry) (r : Result ℕ EnterRefusal) → History m Open h → AsDefined m (entriesHeld h) (enter list r) → History m Open (enter list r ∷ h)
@@ -74,11 +75,11 @@ pub data History (m : Lts) : Phase → List Call → Type 0 where
   compared : {h : List Call} (s t : ℕ) (r : Result Bool AlikeRefusal) → History m Settled h → AsDefined m (entriesHeld h) (alike s t r) → History m Settled (alike s t r ∷ h)
   told : {h : List Call} (s t : ℕ) (before after : List Line) (r : Result ℕ TellRefusal) → History m Settled h → AsDefined m (entriesHeld h) (tell s t before after r) → History m Settled (tell s t before after r ∷ h)
 
--- Call e stands in the log h, and the calls before it are `earlier`.
+-- Call e stands in the history h, and the calls before it are `earlier`.
 abbrev pub Stands : List Call → Call → List Call → Type 0
 Stands h e earlier = (later : List Call) × (h ≡ later ++ e ∷ earlier)
 
--- What holds of all answers of a log.
+-- The law of the kept bench: what holds of all answers of a history.
 pub record Lawful (m : Lts) (h : List Call) : Type 0 where
   -- each answer or refusal is the defined one for the entries held at its call
   pub as-defined : (e : Call) (earlier : List Call) → Stands h e earlier → AsDefined m (entriesHeld earlier) e
@@ -91,5 +92,6 @@ pub record Lawful (m : Lts) (h : List Call) : Type 0 where
   -- where two states were found alike, a formula entered before both askings is reached from both alike
   pub uniform : (s t f : ℕ) (p q p′ q′ : List Step) (r r′ : Result (Option ℕ) ReachRefusal) (e₀ e₁ e₂ : List Call) → Stands h (alike s t (Ok true)) e₀ → Stands h (reach f s p p′ r) e₁ → f < length (entriesHeld e₁) → Stands h (reach f t q q′ r′) e₂ → f < length (entriesHeld e₂) → ((r ≡ Ok None) ↔ (r′ ≡ Ok None)) × ((n n′ : ℕ) → r ≡ Ok (Some n) → r′ ≡ Ok (Some n′) → n ≡ n′) × (length p ≡ length q → r ≡ r′)
 
+-- Whatever two systems stand side by side, and whatever calls were taken since the opening.
 abbrev pub Every-history-is-lawful : Type 0
 Every-history-is-lawful = (l r : Lts) → Limits l → Limits r → (φ : Phase) (h : List Call) → History (joined l r) φ h → Lawful (joined l r) h
