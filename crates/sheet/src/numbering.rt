@@ -14,6 +14,11 @@ use crate::lines::Lines;
 
 const LINE_END: u8 = b'\n';
 
+// Every text is one list of lines.
+pub fn lines_are_found()
+    ensures { λ _. ⌜ Lines-are-found ⌝ }
+{}
+
 // Reads a line, and passes its end.
 fn pass_line<'a>(cursor: &mut Cursor<'a>) -> &'a [u8]
     requires { ⌜ place (now cursor) < length (bytes (now cursor)) ⌝ }
@@ -32,7 +37,6 @@ impl<'a> Lines<'a> {
         ensures unread { λ r. ⌜ unread r ≡ linesOf (now (sheet .entry)) ⌝ }
         ensures count { λ r. ⌜ r .count ≡ 0 ⌝ }
         ensures headed { λ r. ⌜ r .headed ≡ false ⌝ }
-        ensures lines { λ _. ⌜ Lines-are-found ⌝ }
     {
         Lines {
             cursor: Cursor::new(sheet),
