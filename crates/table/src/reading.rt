@@ -19,14 +19,18 @@ impl Table {
         ensures { λ r. ⌜ made r (λ t. meaning t ≡ still) ⌝ }
     {
         let rows = Rows::new(heap)?;
+        let states = states_of(rows.as_slice());
+        let firsts = firsts_of(rows.as_slice());
+        let mut slots = [Slot {
+            action: 0,
+            target: 0,
+        }; 2048];
+        place(rows.as_slice(), &firsts, &mut slots);
         Ok(Table {
             rows,
-            states: 1,
-            firsts: [0; 1025],
-            slots: [Slot {
-                action: 0,
-                target: 0,
-            }; 2048],
+            states,
+            firsts,
+            slots,
         })
     }
 
