@@ -1,0 +1,9 @@
+pub mod Ordering
+pub mod Moves
+pub mod Walking
+pub mod Completeness
+pub mod Soundness
+pub mod Viability
+pub mod Counting
+pub mod Verdicts
+pub mod Written
