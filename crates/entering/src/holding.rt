@@ -12,7 +12,10 @@ impl Held {
     pub fn new() -> Held
         ensures { λ r. ⌜ entriesIn r ≡ [] ⌝ }
     {
-        Held { entries: [Entry::True; 128], count: 0 }
+        Held {
+            entries: [Entry::True; 128],
+            count: 0,
+        }
     }
 
     // The entries, in order.

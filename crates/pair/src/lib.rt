@@ -1,0 +1,3 @@
+// Two transition systems side by side, asked as one.
+pub mod graph;
+pub mod pair;

@@ -1,0 +1,5 @@
+mod BitLaws
+mod Going
+mod Naming
+mod Valuing
+mod Writing
