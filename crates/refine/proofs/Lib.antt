@@ -6,3 +6,4 @@ pub mod Placing
 pub mod Refining
 pub mod Parting
 pub mod Climbing
+pub mod AtDepths

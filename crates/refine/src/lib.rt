@@ -8,6 +8,7 @@ use pair::graph::Graph;
 
 pub mod classes;
 mod climb;
+mod levels;
 mod round;
 mod signature;
 
