@@ -1,5 +1,6 @@
 mod BitLaws
 mod Going
 mod Naming
+pub mod Telling
 mod Valuing
 mod Writing

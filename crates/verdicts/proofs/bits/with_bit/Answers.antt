@@ -1,7 +1,6 @@
 use mathlib.Core.Path.{_≡_, refl, sym, ap, _∙_}
 use mathlib.Core.Bool.{Bool, true, false, _||_, _&&_, not}
 use Prim.Native.Nat.{ℕ, _^_, _%_, _*_, _<_}
-use native.Mathlib.Omega.{arith}
 use lib.Bits.{bitAnd, bitOr, bitXor}
 use Rattle.std.proofs.shelf.Bits.{one-shl}
 use Rattle.verdicts.specs.Words.{bit}

@@ -1,4 +1,3 @@
-use native.Mathlib.Omega.{arith}
 use borrow.Author.Needs.{needs}
 use Rattle.verdicts.proofs.Writing.{entry-more}
 use Rattle.verdicts.proofs.judging.judge_entry.Needs as need

@@ -1,0 +1,7 @@
+mod Adding
+mod Arriving
+mod Counts
+mod Following
+mod Marking
+pub mod Moving
+mod Stepping

@@ -1,0 +1,4 @@
+pub mod Reaching
+pub mod Counting
+pub mod Layering
+pub mod Measuring
