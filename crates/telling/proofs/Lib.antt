@@ -1,0 +1,4 @@
+mod Marked
+mod Matching
+mod Children
+mod Continuing
