@@ -1,4 +1,6 @@
 // Formulas of Hennessy-Milner logic as lists of entries.
+#![tactic(auto)]
+
 ghost use Rattle.formula.specs.Theorems.{Appending_keeps, Appending_adds, Appending_is_sound};
 
 pub mod entry;

@@ -2,6 +2,8 @@
 // decides it byte by byte.
 //
 // A function here that takes nothing states theorems: its contract is what it is for, and it answers nothing of use.
+#![tactic(auto)]
+
 ghost use Rattle.grammar.specs.Theorems.{Text_is_one_formula, Entries_are_counted, Machine_is_exact, Verdict_is_one};
 ghost use Rattle.grammar.specs.Theorems.{Accepted_is_derived, Malformed_is_first, Written_is_read, Action_text_is_read};
 

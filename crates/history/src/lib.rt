@@ -1,4 +1,6 @@
 // Any list of calls, run on a bench and written down.
+#![tactic(auto)]
+
 mod asking;
 pub mod calls;
 mod entering;

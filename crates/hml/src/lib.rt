@@ -2,6 +2,8 @@
 // records that hold runs and formulas, and what is proved of the definitions.
 //
 // A function here that takes nothing states theorems: its contract is what it is for, and it answers nothing of use.
+#![tactic(auto)]
+
 ghost use Rattle.hml.specs.Examples.{Worked_facts_hold, Traces_do_not_decide};
 ghost use Rattle.hml.specs.Theorems.{Hennessy_Milner, Agreement_is_by_steps, Bisimilar_is_every_depth};
 ghost use Rattle.hml.specs.Theorems.{Reached_or_never, First_nearer_run_exists, First_nearer_run_is_one, Bisimilar_reach_alike};

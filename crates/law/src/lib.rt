@@ -1,4 +1,6 @@
 // The calls of a bench: why each may refuse, what each answers, and what holds of every history of calls.
+#![tactic(auto)]
+
 ghost use Rattle.law.specs.History.{Every_history_is_lawful};
 ghost use Rattle.law.specs.Theorems.{Answers_are_one};
 

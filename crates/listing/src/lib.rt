@@ -1,4 +1,6 @@
 // Transition systems as text, for people and for other programs.
+#![tactic(auto)]
+
 ghost use Rattle.std.specs.Prelude.{◌≡◌, ℕ, ◌≤◌, ◌++◌, IfOk, Some, string_bytes, OnOk};
 ghost use Rattle.listing.specs.Listing.{move_line, ways_text, listing_of};
 

@@ -1,4 +1,6 @@
 // Labelled transition systems: the questions that any system answers, and the meaning that it answers for.
+#![tactic(auto)]
+
 ghost use Rattle.std.specs.Prelude.{◌≡◌, length};
 ghost use Rattle.lts.specs.Lts.{Lts, Limits, way_at};
 

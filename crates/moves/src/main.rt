@@ -1,4 +1,6 @@
 // Lists the moves of a transition table: `moves [FILE]`, with built.csv where no file is named.
+#![tactic(auto)]
+
 use files::sheet_file::SheetFile;
 use listing::list;
 use std::env;

@@ -1,3 +1,5 @@
 // Two transition systems side by side, asked as one.
+#![tactic(auto)]
+
 pub mod graph;
 pub mod pair;

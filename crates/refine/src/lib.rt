@@ -1,4 +1,6 @@
 // The classes of bisimilar states of a transition system, and the least depth at which two states disagree.
+#![tactic(auto)]
+
 ghost use Rattle.refine.specs.Classes.{Refined};
 
 use crate::classes::Classes;

@@ -1,4 +1,6 @@
 // The rows of a transition table, read from its sheet.
+#![tactic(auto)]
+
 pub mod columns;
 mod fields;
 mod header;

@@ -1,4 +1,6 @@
 // Shortest runs of a transition system to a state where a formula holds.
+#![tactic(auto)]
+
 mod distances;
 mod exploring;
 mod layers;

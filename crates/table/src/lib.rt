@@ -1,4 +1,6 @@
 // Transition tables: read from their sheets, and asked as transition systems.
+#![tactic(auto)]
+
 mod answering;
 mod indexing;
 mod reading;

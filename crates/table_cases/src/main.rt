@@ -3,6 +3,8 @@
 //
 // In a line \n, \r and \0 stand for bytes 10, 13 and 0, and \? for byte 255. A line of three parts with tabs between is
 // a text, a count, and a text that is repeated so often behind it. Of a long table only its length is printed.
+#![tactic(auto)]
+
 use listing::list;
 use table::table::Table;
 

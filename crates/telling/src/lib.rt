@@ -1,4 +1,6 @@
 // The distinguishing formula of two states that are not bisimilar, line by line.
+#![tactic(auto)]
+
 mod choosing;
 mod lines;
 mod marks;
