@@ -6,7 +6,7 @@ pub returns-in-42 : goal.returns-in-42
 returns-in-42 c = reads_silent c.args.bytes.now (search rules) (search rules)
 
 pub returns-in-97-to-122 : goal.returns-in-97-to-122
-returns-in-97-to-122 c = reads_received c.args.bytes.now c.of-letter.result.number (search rules) c.of-letter.result.below c.of-letter.ensures
+returns-in-97-to-122 c = reads_received c.args.bytes.now c.of_letter.result.number (search rules) c.of_letter.result.below c.of_letter.ensures
 
 pub returns-in-94 : goal.returns-in-94
-returns-in-94 c = reads_sent c.args.bytes.now c.of-letter-in-94.result.number (search rules) (search rules) c.of-letter-in-94.result.below c.of-letter-in-94.ensures
+returns-in-94 c = reads_sent c.args.bytes.now c.of_letter-in-94.result.number (search rules) (search rules) c.of_letter-in-94.result.below c.of_letter-in-94.ensures
