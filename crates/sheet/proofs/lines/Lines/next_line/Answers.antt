@@ -10,14 +10,14 @@ use Rattle.sheet.proofs.lines.Lines.next_line.Goals as goal
 pub returns-then-line-gt0 : goal.returns-then-line-gt0
 returns-then-line-gt0 c =
     let before = unread c.args.self.now in
-    let l = c.any-line-line.result.now in
-    let left = unread c.any-line-line.new.self in
+    let l = c.any_line-line.result.now in
+    let left = unread c.any_line-line.new.self in
     let j = c.loop-self.self.count - c.args.self.now.count in
     let inv = c.loop-self.invariant in
-    let count = c.any-line-line.ensures.count in
+    let count = c.any_line-line.ensures.count in
     let sorted = c.sorted-line.ensures in
-    let first = blank_no_more before (unread c.loop-self.self) j inv.1 inv.2 l left c.any-line-line.ensures.line c.if-line-gt0.true in
-    let headed = c.any-line-line.ensures.headed ∙ inv.3 in
+    let first = blank_no_more before (unread c.loop-self.self) j inv.1 inv.2 l left c.any_line-line.ensures.line c.if-line-gt0.true in
+    let headed = c.any_line-line.ensures.headed ∙ inv.3 in
     subst (λ k. Gives c.args.self.now k (record { number = c.sorted-line.new.self.count; line = c.sorted-line.result }) c.sorted-line.new.self) (sym first.0) (record {
       there = first.1;
       number = omega (arith, inv.0, count, sorted.count);
@@ -30,15 +30,15 @@ returns-then-line-gt0 c =
 pub loop-self-preserved : goal.loop-self-preserved
 loop-self-preserved c =
     let before = unread c.args.self.now in
-    let left = unread c.any-line-line.new.self in
+    let left = unread c.any_line-line.new.self in
     let j = c.loop-self.self.count - c.args.self.now.count in
     let inv = c.loop-self.invariant in
-    let count = c.any-line-line.ensures.count in
-    let empty : c.any-line-line.result.now ≡ [] = nil_from_length _ (omega arith) in
-    let read : unread c.loop-self.self ≡ [] ∷ left = c.any-line-line.ensures.line ∙ ap (λ l. l ∷ left) empty in
+    let count = c.any_line-line.ensures.count in
+    let empty : c.any_line-line.result.now ≡ [] = nil_from_length _ (omega arith) in
+    let read : unread c.loop-self.self ≡ [] ∷ left = c.any_line-line.ensures.line ∙ ap (λ l. l ∷ left) empty in
     let more = blank_more before (unread c.loop-self.self) j inv.1 inv.2 left read in
-    let next : c.any-line-line.new.self.count - c.args.self.now.count ≡ j + 1 = omega (arith, inv.0) in
-    (omega (arith, inv.0), more.0 ∙ ap (λ n. drop n before) (sym next), rw next more.1, c.any-line-line.ensures.headed ∙ inv.3)
+    let next : c.any_line-line.new.self.count - c.args.self.now.count ≡ j + 1 = omega (arith, inv.0) in
+    (omega (arith, inv.0), more.0 ∙ ap (λ n. drop n before) (sym next), rw next more.1, c.any_line-line.ensures.headed ∙ inv.3)
 
 pub returns : goal.returns
 returns c =
