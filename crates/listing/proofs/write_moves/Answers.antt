@@ -9,8 +9,8 @@ write-move-requires g c κs a t e =
 pub loop-k-preserved : goal.loop-k-preserved
 loop-k-preserved g c =
     ways_more c.args.state c.loop-k.k ((g.S.System.means c.args.system.now).ways c.args.state)
-    (string_bytes c.loop-k.out) (string_bytes c.write-move.new.out) _ c.loop-k.invariant
-    c.way.result (omega (arith, c.ways-k-end.ensures)) c.way.ensures c.in-ok-write-move.ensures
+    (string_bytes c.loop-k.out) (string_bytes c.write_move.new.out) _ c.loop-k.invariant
+    c.way.result (omega (arith, c.ways-k-end.ensures)) c.way.ensures c.in_ok-write_move.ensures
 
 pub returns : goal.returns
 returns g c =

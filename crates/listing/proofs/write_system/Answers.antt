@@ -7,13 +7,13 @@ loop-state-init g c = states_begin (g.S.System.means c.args.system.now) (string_
 
 pub loop-state-preserved : goal.loop-state-preserved
 loop-state-preserved g c =
-    states_more (g.S.System.means c.args.system.now) c.loop-state.state (string_bytes c.loop-state.out) (string_bytes c.write-moves.new.out) _
-    c.loop-state.invariant (omega (arith, c.states-states.ensures)) c.in-ok-write-moves.ensures
+    states_more (g.S.System.means c.args.system.now) c.loop-state.state (string_bytes c.loop-state.out) (string_bytes c.write_moves.new.out) _
+    c.loop-state.invariant (omega (arith, c.states-states.ensures)) c.in_ok-write_moves.ensures
 
 pub returns : goal.returns
 returns g c =
     lines_whole (g.S.System.means c.args.system.now) c.states-states.result c.start-start.result
     (string_bytes c.args.out.now) (string_bytes c.writeln.new.self) (string_bytes c.writeln-2.new.self) (string_bytes c.loop-state.out)
-    c.states-states.ensures c.start-start.ensures c.in-ok-writeln.ensures.bytes c.in-ok-writeln-2.ensures.bytes
+    c.states-states.ensures c.start-start.ensures c.in_ok-writeln.ensures.bytes c.in_ok-writeln-2.ensures.bytes
     (states_end (g.S.System.means c.args.system.now) c.loop-state.state (string_bytes c.loop-state.out) (string_bytes c.loop-state.out) _
     c.loop-state.invariant (omega (arith, c.states-states.ensures)))

@@ -3,8 +3,8 @@ use Rattle.std.proofs.Common.{◌-◌, Some, None, sym, arith}
 use Rattle.pair.specs.Joining.{answered_right}
 use Rattle.pair.proofs.pair.PairGraph.way.Goals as goal
 
-pub overflow-add-result : goal.overflow-add-result
-overflow-add-result g c =
+pub overflow_add-result : goal.overflow_add-result
+overflow_add-result g c =
     let l = g.met.L.System.limits c.args.self.now.left in
     let r = g.met.R.System.limits c.args.self.now.right in
     omega (arith, l.most, r.most, r.target (c.args.state - c.states-left.result) c.args.k c.in-Some.action c.in-Some.target (sym c.in-Some.ensures))
