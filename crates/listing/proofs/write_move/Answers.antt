@@ -4,8 +4,8 @@ use Rattle.std.proofs.lemmas.Result.{IfOk-weaker}
 use Rattle.listing.proofs.Lines.{move_line_lem}
 use Rattle.listing.proofs.write_move.Goals as goal
 
-pub returns-in-default-numbered : goal.returns-in-default-numbered
-returns-in-default-numbered c = absurd (omega (arith, c.in-default-numbered.ensures, c.requires c.in-Some.number c.in-Some.target c.in-Some.is))
+pub returns-in_default-numbered : goal.returns-in_default-numbered
+returns-in_default-numbered c = absurd (omega (arith, c.in_default-numbered.ensures, c.requires c.in-Some.number c.in-Some.target c.in-Some.is))
 
 pub returns : goal.returns
 returns c =

@@ -30,7 +30,7 @@ returns-then-same g c =
     let h = c.requires in
     let u = get_or names c.args.state 0 in
     let l : u < c.args.state = omega (arith, class_low m c.args.depth names h.classed c.args.state h.state, c.if-class-state.false) in
-    let marked = subst (λ i. Marked m names c.args.state i c.args.marks.now.stamps) (sym c.stamp-of.ensures) h.marked in
+    let marked = subst (λ i. Marked m names c.args.state i c.args.marks.now.stamps) (sym c.stamp_of.ensures) h.marked in
     let told = c.same.ensures c.args.state marked h.weighs (h.placed.weighs u l) in
     alike_names m wide c.args.depth names h.classed c.args.state u (class_names m wide c.args.depth names h.classed c.args.state h.state) (told.yes c.if-same.true)
 

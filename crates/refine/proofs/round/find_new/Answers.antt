@@ -17,7 +17,7 @@ returns-then-same g c =
     let names = c.args.names.now in
     let h = c.requires.looking in
     let u = get_or c.args.round.now.fresh c.loop-j.j 0 in
-    let marked = subst (λ i. Marked m names c.args.state i c.args.marks.now.stamps) (sym c.stamp-of-stamp.ensures) h.marked in
+    let marked = subst (λ i. Marked m names c.args.state i c.args.marks.now.stamps) (sym c.stamp_of-stamp.ensures) h.marked in
     let told = c.same.ensures c.args.state marked h.weighs (h.placed.weighs u (h.placed.fresh c.loop-j.j c.loop-j-test.true)) in
     alike_names m wide c.args.depth names h.classed c.args.state u
     (fresh_names m wide c.args.depth names h.classed c.args.state c.args.round.now h.placed c.loop-j.j c.loop-j-test.true)
@@ -29,7 +29,7 @@ loop-j-preserved g c =
     let names = c.args.names.now in
     let h = c.requires.looking in
     let u = get_or c.args.round.now.fresh c.loop-j.j 0 in
-    let marked = subst (λ i. Marked m names c.args.state i c.args.marks.now.stamps) (sym c.stamp-of-stamp.ensures) h.marked in
+    let marked = subst (λ i. Marked m names c.args.state i c.args.marks.now.stamps) (sym c.stamp_of-stamp.ensures) h.marked in
     let told = c.same.ensures c.args.state marked h.weighs (h.placed.weighs u (h.placed.fresh c.loop-j.j c.loop-j-test.true)) in
     below_more (λ i. ¬ Alike m names c.args.state (get_or c.args.round.now.fresh i 0)) c.loop-j.j c.loop-j.invariant (told.no c.if-same.false)
 

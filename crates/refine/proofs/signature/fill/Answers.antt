@@ -23,12 +23,12 @@ overflow-add-print g c =
 
 pub loop-k-preserved : goal.loop-k-preserved
 loop-k-preserved g c =
-    filling_more (g.G.Graph.means c.args.graph.now) c.args.names.now c.args.state c.args.stamp c.loop-k.k c.loop-k.print c.code-of-code.result
+    filling_more (g.G.Graph.means c.args.graph.now) c.args.names.now c.args.state c.args.stamp c.loop-k.k c.loop-k.print c.code_of-code.result
     c.loop-k.marks.stamps
     c.mark-before.new.self.stamps
     c.loop-k.invariant
-    (c.code-of-code.ensures.value ∙ ap (code_of c.args.names.now) c.way-way.ensures)
-    c.code-of-code.ensures.slot
+    (c.code_of-code.ensures.value ∙ ap (code_of c.args.names.now) c.way-way.ensures)
+    c.code_of-code.ensures.slot
     c.mark-before.ensures.here
     c.mark-before.ensures.others
     c.added-print.result
