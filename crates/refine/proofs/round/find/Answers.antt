@@ -34,13 +34,13 @@ returns-then-same g c =
     let told = c.same.ensures c.args.state marked h.weighs (h.placed.weighs u l) in
     alike_names m wide c.args.depth names h.classed c.args.state u (class_names m wide c.args.depth names h.classed c.args.state h.state) (told.yes c.if-same.true)
 
-pub find-new-requires : goal.find-new-requires
-find-new-requires g c =
+pub find_new-requires : goal.find_new-requires
+find_new-requires g c =
     let m = g.G.Graph.means c.args.graph.now in
     let names = c.args.names.now in
     let h = c.requires in
     let u = get_or names c.args.state 0 in
     let l : u < c.args.state = omega (arith, class_low m c.args.depth names h.classed c.args.state h.state, c.if-class-state.false) in
-    let marked = subst (λ i. Marked m names c.args.state i c.args.marks.now.stamps) (sym c.stamp-of.ensures) h.marked in
+    let marked = subst (λ i. Marked m names c.args.state i c.args.marks.now.stamps) (sym c.stamp_of.ensures) h.marked in
     let told = c.same.ensures c.args.state marked h.weighs (h.placed.weighs u l) in
     record { looking = h; apart = told.no c.if-same.false }

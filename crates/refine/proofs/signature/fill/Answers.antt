@@ -5,20 +5,20 @@ use Rattle.refine.proofs.Filling.{filling_none, filling_small, filling_more, fil
 use Rattle.refine.proofs.Signing.{way_coded}
 use Rattle.refine.proofs.signature.fill.Goals as goal
 
-pub overflow-add-end : goal.overflow-add-end
-overflow-add-end g c = omega (arith, (g.met.G.Graph.wide c.args.graph.now).few c.args.state)
+pub overflow_add-end : goal.overflow_add-end
+overflow_add-end g c = omega (arith, (g.met.G.Graph.wide c.args.graph.now).few c.args.state)
 
 pub loop-k-init : goal.loop-k-init
 loop-k-init g c = filling_none (g.G.Graph.means c.args.graph.now) c.args.names.now c.args.state c.args.stamp c.args.marks.now.stamps c.requires.clean
 
-pub code-of-code-requires : goal.code-of-code-requires
-code-of-code-requires g c =
+pub code_of-code-requires : goal.code_of-code-requires
+code_of-code-requires g c =
     way_coded (g.G.Graph.means c.args.graph.now) (g.met.G.Graph.wide c.args.graph.now) c.args.names.now c.requires.below c.args.state c.loop-k.k
     c.way-way.result
     c.way-way.ensures
 
-pub overflow-add-print : goal.overflow-add-print
-overflow-add-print g c =
+pub overflow_add-print : goal.overflow_add-print
+overflow_add-print g c =
     omega (arith, filling_small (g.G.Graph.means c.args.graph.now) c.args.names.now c.args.state c.args.stamp c.loop-k.k c.loop-k.print c.loop-k.marks.stamps c.loop-k.invariant)
 
 pub loop-k-preserved : goal.loop-k-preserved

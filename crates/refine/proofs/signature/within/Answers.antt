@@ -4,11 +4,11 @@ use Rattle.std.proofs.lemmas.Bool.{true≢false}
 use Rattle.refine.proofs.Signing.{way_coded, each_code}
 use Rattle.refine.proofs.signature.within.Goals as goal
 
-pub overflow-add-end : goal.overflow-add-end
-overflow-add-end g c = omega (arith, (g.met.G.Graph.wide c.args.graph.now).few c.args.state)
+pub overflow_add-end : goal.overflow_add-end
+overflow_add-end g c = omega (arith, (g.met.G.Graph.wide c.args.graph.now).few c.args.state)
 
-pub code-of-code-requires : goal.code-of-code-requires
-code-of-code-requires g c =
+pub code_of-code-requires : goal.code_of-code-requires
+code_of-code-requires g c =
     way_coded (g.G.Graph.means c.args.graph.now) (g.met.G.Graph.wide c.args.graph.now) c.args.names.now c.requires.below c.args.state c.loop-k.k
     c.way-way.result
     c.way-way.ensures
