@@ -30,8 +30,8 @@ clear_low x (suc (suc y)) p q = absurd (omega arith)
 clear_low (suc (suc x)) zero p q = absurd (omega arith)
 clear_low (suc (suc x)) (suc zero) p q = absurd (omega arith)
 
-pub bit_or : (a b i : ℕ) → bit (bit_or a b) i ≡ (bit a i || bit b i)
-bit_or a b i =
+pub bit_or_lem : (a b i : ℕ) → bit (bit_or a b) i ≡ (bit a i || bit b i)
+bit_or_lem a b i =
     ap (λ x. eqb (x % 2) 1) (or_shr a b i)
     ∙ ap (λ x. eqb x 1) (or_mod (a / 2 ^ i) (b / 2 ^ i) 1)
     ∙ or_low (a / 2 ^ i % 2) (b / 2 ^ i % 2) (below_two (a / 2 ^ i)) (below_two (b / 2 ^ i))

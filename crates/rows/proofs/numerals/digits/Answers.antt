@@ -25,11 +25,11 @@ returns-then-b-lt48 c n small =
     in
     both_ways _ digits (c.loop-b.invariant.1 ∙ small.0)
 
-pub returns-in-default : goal.returns-in-default
-returns-in-default c n small =
+pub returns-in_default : goal.returns-in_default
+returns-in_default c n small =
     let number = c.loop-b.number * 10 + (get_or c.args.field.now c.loop-b.b-index 0 - 48) in
     let more = digit_more c.args.field.now c.loop-b.b-index c.loop-b.number c.loop-b-test.true number c.if-b-lt48.false c.if-b-gt57.false refl in
-    let big = grows_past number (drop (c.loop-b.b-index + 1) c.args.field.now) c.in-default.ensures in
+    let big = grows_past number (drop (c.loop-b.b-index + 1) c.args.field.now) c.in_default.ensures in
     omega (arith, big, more.1, c.loop-b.invariant.2, small.1, small.2)
 
 pub returns : goal.returns

@@ -4,8 +4,8 @@ use Rattle.rows.specs.declared.row.Row.{Row}
 use Rattle.rows.proofs.Ways.{none_gone}
 use Rattle.rows.proofs.reading.read_sheet.Goals as goal
 
-pub read-rows-requires : goal.read-rows-requires
-read-rows-requires c =
+pub read_rows-requires : goal.read_rows-requires
+read_rows-requires c =
     let new = c.new-lines.ensures in
     let header = c.in-Ok.ensures c.args.sheet.now (none_gone c.args.sheet.now c.new-lines.result new.unread new.count) in
     record { headed = header.2; width = header.1 }
@@ -19,5 +19,5 @@ pub returns : goal.returns
 returns c =
     let new = c.new-lines.ensures in
     let header = c.in-Ok.ensures c.args.sheet.now (none_gone c.args.sheet.now c.new-lines.result new.unread new.count) in
-    c.read-rows.ensures c.args.sheet.now
-    (subst (λ (rows : List Row). Begun c.args.sheet.now c.find-header.new.lines c.in-Ok.columns rows) (sym c.requires) header.0)
+    c.read_rows.ensures c.args.sheet.now
+    (subst (λ (rows : List Row). Begun c.args.sheet.now c.find_header.new.lines c.in-Ok.columns rows) (sym c.requires) header.0)

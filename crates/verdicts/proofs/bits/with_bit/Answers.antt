@@ -2,7 +2,7 @@ use Rattle.std.proofs.Common.{◌≡◌, ℕ, ◌*◌, ◌%◌, ◌^◌, ◌<◌
 use lib.Bits.{bit_and, bit_or, bit_xor}
 use Rattle.std.proofs.lemmas.Nat.{one_shl}
 use Rattle.verdicts.specs.Words.{bit}
-use Rattle.verdicts.proofs.BitLaws.{bit_or, bit_clear, bit_pow_same, bit_pow_other}
+use Rattle.verdicts.proofs.BitLaws.{bit_or_lem, bit_clear, bit_pow_same, bit_pow_other}
 use Rattle.verdicts.proofs.bits.with_bit.Goals as goal
 
 or_true : (x : Bool) → (x || true) ≡ true
@@ -26,10 +26,10 @@ module _ (v k : ℕ) (h : k < 128) where
   flag_is = one_shl k 128 h
 
   set_same : bit (bit_or v ((1 * 2 ^ k) % 2 ^ 128)) k ≡ true
-  set_same = ap (λ f. bit (bit_or v f) k) flag_is ∙ bit_or v (2 ^ k) k ∙ ap (λ b. bit v k || b) (bit_pow_same k) ∙ or_true (bit v k)
+  set_same = ap (λ f. bit (bit_or v f) k) flag_is ∙ bit_or_lem v (2 ^ k) k ∙ ap (λ b. bit v k || b) (bit_pow_same k) ∙ or_true (bit v k)
 
   set_other : (i : ℕ) → (i ≡ k → ⊥) → bit (bit_or v ((1 * 2 ^ k) % 2 ^ 128)) i ≡ bit v i
-  set_other i n = ap (λ f. bit (bit_or v f) i) flag_is ∙ bit_or v (2 ^ k) i ∙ ap (λ b. bit v i || b) (bit_pow_other k i n) ∙ or_false (bit v i)
+  set_other i n = ap (λ f. bit (bit_or v f) i) flag_is ∙ bit_or_lem v (2 ^ k) i ∙ ap (λ b. bit v i || b) (bit_pow_other k i n) ∙ or_false (bit v i)
 
   clear_same : bit (bit_xor v (bit_and v ((1 * 2 ^ k) % 2 ^ 128))) k ≡ false
   clear_same = ap (λ f. bit (bit_xor v (bit_and v f)) k) flag_is ∙ bit_clear v (2 ^ k) k ∙ ap (λ b. bit v k && not b) (bit_pow_same k) ∙ and_false (bit v k)
