@@ -6,9 +6,9 @@ use Rattle.entering.proofs.held.Held.enter.Goals as goal
 
 pub returns-then-list-from : goal.returns-then-list-from
 returns-then-list-from c =
-    let some : 1 ≤ length c.args.list.now = omega (arith, eqb-false (length c.args.list.now) 0 (sym c.if-is-empty.ensures)) in
+    let some : 1 ≤ length c.args.list.now = omega (arith, eqb-false (length c.args.list.now) 0 (sym c.if-is_empty.ensures)) in
     record {
-      answer = (some, c.in-default.ensures, omega (arith, held_count c.args.self.now, c.from.ensures, c.if-list-from.true, c.args.self.now.few));
+      answer = (some, c.in_default.ensures, omega (arith, held_count c.args.self.now, c.from.ensures, c.if-list-from.true, c.args.self.now.few));
       after = refl;
     }
 
@@ -16,18 +16,18 @@ returns-then-list-from c =
 counted : (c : goal.After-append) → c.append.new.self.count ≡ length (entries_in c.args.self.now) + length c.args.list.now
 counted c = sym (held_count c.append.new.self) ∙ ap length c.append.ensures ∙ appended_length (entries_in c.args.self.now) c.args.list.now
 
-pub overflow-sub-result : goal.overflow-sub-result
-overflow-sub-result c =
-    let some : 1 ≤ length c.args.list.now = omega (arith, eqb-false (length c.args.list.now) 0 (sym c.if-is-empty.ensures)) in
+pub overflow_sub-result : goal.overflow_sub-result
+overflow_sub-result c =
+    let some : 1 ≤ length c.args.list.now = omega (arith, eqb-false (length c.args.list.now) 0 (sym c.if-is_empty.ensures)) in
     omega (arith, counted c)
 
 pub returns : goal.returns
 returns c =
-    let some : 1 ≤ length c.args.list.now = omega (arith, eqb-false (length c.args.list.now) 0 (sym c.if-is-empty.ensures)) in
+    let some : 1 ≤ length c.args.list.now = omega (arith, eqb-false (length c.args.list.now) 0 (sym c.if-is_empty.ensures)) in
     record {
       answer = (
         some,
-        c.in-default.ensures,
+        c.in_default.ensures,
         omega (arith, held_count c.args.self.now, c.from.ensures, c.if-list-from.false, c.args.self.now.few),
         omega (arith, counted c),
       );

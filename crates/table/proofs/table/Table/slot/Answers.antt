@@ -5,8 +5,8 @@ use Rattle.table.proofs.table.Table.slot.Goals as goal
 pub first-requires : goal.first-requires
 first-requires c = omega (arith, state_inside c.args.self.now c.args.state c.args.k c.requires)
 
-pub overflow-add-first : goal.overflow-add-first
-overflow-add-first c =
+pub overflow_add-first : goal.overflow_add-first
+overflow_add-first c =
     let inside = slot_inside c.args.self.now c.args.state c.args.k c.requires in
     let first = c.first.ensures in
     search rules
