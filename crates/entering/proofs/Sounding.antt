@@ -1,5 +1,5 @@
 -- The test of soundness decides it. Assumes nothing.
-use Rattle.std.proofs.Common.{◌≡◌, ℕ, Bool, true, false, ◌&&◌, ltb, leb, ⊎_elim}
+use Rattle.std.proofs.Common.{◌≡◌, ℕ, true, false}
 use Rattle.std.proofs.lemmas.Bool.{and_parts, and_from, ltb-true, leb-true, lt-ltb, le-leb, both_ways}
 use Rattle.formula.specs.Entries.{Sound}
 use Rattle.formula.specs.declared.entry.Entry.{Entry}

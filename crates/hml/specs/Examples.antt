@@ -1,10 +1,10 @@
 -- Worked examples, on which the definitions are tried. Assumes nothing.
-use Rattle.std.specs.Prelude.{◌≡◌, ℕ, suc, List, [], ◌∷◌, length, Some, None, slice_index_or}
+use Rattle.std.specs.Prelude.{ℕ, List, [], ◌∷◌, length, Some, None, slice_index_or}
 use Rattle.lts.specs.Lts.{Lts, Way}
 use Rattle.lts.specs.Joined.{joined}
 use Rattle.hml.specs.Logic.{Formula}
 use Rattle.hml.specs.Logic.Formula.{tru, fls, may, must}
-use Rattle.hml.specs.Bisimilarity.{Bisimilar, Agree}
+use Rattle.hml.specs.Bisimilarity.{Bisimilar}
 use Rattle.hml.specs.Traces.{TraceEqual}
 use Rattle.hml.specs.Runs.{Leads, Never}
 use Rattle.hml.specs.Distinguishing.{LinesFor, FirstApart}

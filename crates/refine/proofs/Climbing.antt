@@ -5,7 +5,7 @@ use Rattle.hml.specs.Bisimilarity.{Agree}
 use Rattle.hml.specs.Distinguishing.{FirstApart}
 use Rattle.hml.proofs.Agreement.{agree_refl, agree_sym, agree_trans, agree_below}
 use Rattle.hml.proofs.Deciding.{by_order}
-use Rattle.refine.specs.Classes.{Refined, Parted}
+use Rattle.refine.specs.Classes.{Refined}
 use Rattle.refine.specs.Climbs.{IsName}
 use Rattle.refine.specs.declared.classes.Classes.{Classes}
 use Rattle.refine.proofs.Naming.{name_names, names_deeper, names_itself}

@@ -1,8 +1,7 @@
 -- Marking the signature of a state, way by way.
-use Rattle.std.proofs.Common.{◌≡◌, ℕ, zero, suc, ◌+◌, ◌<◌, ◌≤◌, Bool, true, false, cond, eqb, ◌⊎◌, List, [], length, get_or, replicate, sym, refl, ap, ◌∙◌, subst, ap₂, inl, inr, ⊎_elim, arith, below_more}
+use Rattle.std.proofs.Common.{◌≡◌, ℕ, zero, suc, ◌+◌, ◌<◌, ◌≤◌, Bool, cond, eqb, List, length, get_or, replicate, sym, refl, ap, ◌∙◌, subst, ap₂, ⊎_elim, arith, below_more}
 use Rattle.std.proofs.lemmas.Bool.{cases_eq, eq-eqb, ne_eqb, eqb-true}
 use Rattle.lts.specs.Lts.{Lts, way_at}
-use Rattle.hml.proofs.Deciding.{by_order}
 use Rattle.refine.specs.Signatures.{code_of, Has, weighed, weight_of, Weighs, Under, Marked}
 use Rattle.refine.proofs.Weighing.{weighed_none, weighed_more, weighed_most}
 use Rattle.refine.proofs.Signing.{weight_most, each_code}

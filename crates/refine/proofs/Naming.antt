@@ -1,8 +1,8 @@
 -- Names of classes: a state has one name to each depth, states with one name agree, and a name stays one.
-use Rattle.std.proofs.Common.{◌≡◌, ℕ, zero, suc, ◌<◌, ◌≤◌, List, get_or, sym, refl, ap, ◌∙◌, subst, arith}
+use Rattle.std.proofs.Common.{◌≡◌, ℕ, ◌<◌, ◌≤◌, List, get_or, sym, subst, arith}
 use Rattle.lts.specs.Lts.{Lts}
 use Rattle.hml.specs.Bisimilarity.{Agree}
-use Rattle.hml.proofs.Agreement.{agree_refl, agree_sym, agree_trans, agree_less, agree_below}
+use Rattle.hml.proofs.Agreement.{agree_refl, agree_sym, agree_trans, agree_below}
 use Rattle.hml.proofs.Deciding.{by_order}
 use Rattle.refine.specs.Classes.{Names, Classed}
 

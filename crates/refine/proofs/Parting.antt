@@ -1,5 +1,5 @@
 -- Refined classes are those of bisimilarity, and the depth at which two states part says at which depths they agree.
-use Rattle.std.proofs.Common.{◌≡◌, ℕ, zero, suc, ◌<◌, ◌≤◌, ◌↔◌, get_or, Some, None, Option, sym, refl, ap, ◌∙◌, subst, arith}
+use Rattle.std.proofs.Common.{◌≡◌, ℕ, zero, suc, ◌<◌, ◌↔◌, get_or, Some, None, Option, sym, refl, ap, arith}
 use Rattle.lts.specs.Lts.{Lts}
 use Rattle.hml.specs.Bisimilarity.{Agree, Bisimilar}
 use Rattle.hml.specs.Distinguishing.{FirstApart}

@@ -1,15 +1,14 @@
 -- A round of refinement: the name of each state to the next depth is that of its class, a new name, or itself.
-use Rattle.std.proofs.Common.{◌≡◌, ℕ, zero, suc, ◌+◌, ◌<◌, ◌≤◌, Bool, true, false, cond, ◌⊎◌, List, get_or, sym, refl, ap, ◌∙◌, subst, inl, inr, ⊎_elim, arith, below_more}
+use Rattle.std.proofs.Common.{◌≡◌, ℕ, suc, ◌+◌, ◌<◌, ◌≤◌, Bool, true, false, cond, ◌⊎◌, List, get_or, sym, refl, ap, ◌∙◌, subst, inl, inr, ⊎_elim, arith, below_more}
 use Rattle.std.proofs.lemmas.Bool.{cases_eq, cases_Bool}
 use Rattle.lts.specs.Lts.{Lts}
-use Rattle.hml.specs.Bisimilarity.{Agree}
 use Rattle.hml.proofs.Agreement.{agree_refl, agree_sym, agree_less}
 use Rattle.pair.specs.Wide.{Wide}
 use Rattle.refine.specs.Classes.{Names, Classed}
 use Rattle.refine.specs.Signatures.{Alike, Weighs}
-use Rattle.refine.specs.Rounds.{Placed, Looking, New, Entered}
+use Rattle.refine.specs.Rounds.{Placed, New, Entered}
 use Rattle.refine.specs.declared.round.Round.{Round}
-use Rattle.refine.proofs.Naming.{name_low, name_moves, name_is_one, name_names, names_agreeing, agree_same, itself_names, names_deeper}
+use Rattle.refine.proofs.Naming.{name_low, name_moves, name_is_one, name_names, names_agreeing, agree_same, names_deeper}
 use Rattle.refine.proofs.Signing.{alike_agree, agree_alike}
 
 module _ (m : Lts) (wide : Wide m) (r : ℕ) (names : List ℕ) (classed : Classed m r names) where

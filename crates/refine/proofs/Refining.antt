@@ -1,16 +1,15 @@
 -- Refinement: each round that changes something adds a name, and where none changes the classes are refined.
-use Rattle.std.proofs.Common.{◌≡◌, ℕ, zero, suc, ◌+◌, ◌*◌, ◌<◌, ◌≤◌, Bool, true, false, eqb, ◌⊎◌, List, get_or, replicate, sym, refl, ap, ◌∙◌, subst, inl, inr, ⊎_elim, add-one, arith}
+use Rattle.std.proofs.Common.{◌≡◌, ℕ, suc, ◌+◌, ◌*◌, ◌<◌, ◌≤◌, false, eqb, ◌⊎◌, List, get_or, replicate, sym, refl, ◌∙◌, subst, inl, inr, ⊎_elim, add-one, arith}
 use Rattle.std.proofs.lemmas.Bool.{cases_eq, eqb-true, eq-eqb, ne_eqb, false≢true}
 use Rattle.lts.specs.Lts.{Lts}
 use Rattle.hml.proofs.Agreement.{agree_less}
 use Rattle.pair.specs.Wide.{Wide}
-use Rattle.refine.specs.Classes.{Names, Classed, Parted, Refined}
+use Rattle.refine.specs.Classes.{Names, Classed, Parted}
 use Rattle.refine.specs.Signatures.{weighed, Under}
 use Rattle.refine.specs.Rounds.{Placed}
-use Rattle.refine.specs.declared.classes.Classes.{Classes}
 use Rattle.refine.specs.declared.round.Round.{Round}
 use Rattle.refine.proofs.Filling.{zeros}
-use Rattle.refine.proofs.Naming.{name_low, name_is_one, name_names, names_itself, itself_names, names_deeper, agree_same, class_low, first_names}
+use Rattle.refine.proofs.Naming.{name_low, name_names, names_itself, itself_names, names_deeper, agree_same, class_low, first_names}
 use Rattle.refine.proofs.Weighing.{weighed_most, weighed_less}
 
 -- The number of names among the states.

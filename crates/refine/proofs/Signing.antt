@@ -1,15 +1,15 @@
 -- States with the same signature are those that agree to one depth more, and the weights of signatures tell them apart.
-use Rattle.std.proofs.Common.{◌≡◌, ℕ, zero, suc, ◌+◌, ◌*◌, ◌%◌, ◌<◌, ◌≤◌, Bool, true, false, cond, ◌⊎◌, List, length, get_or, Some, None, sym, refl, ap, ◌∙◌, subst, inl, inr, ⊎_elim, arith}
+use Rattle.std.proofs.Common.{◌≡◌, ℕ, suc, ◌+◌, ◌*◌, ◌%◌, ◌<◌, ◌≤◌, Bool, true, false, ◌⊎◌, List, length, get_or, Some, None, sym, refl, ap, ◌∙◌, subst, inl, inr, arith}
 use Rattle.std.proofs.lemmas.Nat.{mod_below}
 use Rattle.std.proofs.lemmas.List.{get_or_past}
-use Rattle.std.proofs.lemmas.Bool.{cases_Bool, both_ways}
-use Rattle.lts.specs.Lts.{Lts, Way, Move, way_at}
+use Rattle.std.proofs.lemmas.Bool.{cases_Bool}
+use Rattle.lts.specs.Lts.{Lts, Way, way_at}
 use Rattle.hml.specs.Bisimilarity.{Agree, Matched}
 use Rattle.hml.proofs.Agreement.{agree_sym, matched_wider}
 use Rattle.hml.proofs.Deciding.{by_order}
 use Rattle.pair.specs.Wide.{Wide}
 use Rattle.refine.specs.Classes.{Classed}
-use Rattle.refine.specs.Signatures.{code_of, Coded, Below, Has, Alike, weighed, weight_of, Weighs, Under, Marked}
+use Rattle.refine.specs.Signatures.{code_of, Coded, Below, Has, Alike, weighed, weight_of, Weighs}
 use Rattle.refine.proofs.Naming.{same_agree, agree_same, class_low}
 use Rattle.refine.proofs.Weighing.{weighed_same, weighed_less}
 

@@ -1,6 +1,6 @@
 -- Classes of states that agree to a depth, each named by its lowest state, and the tree of their separations.
 -- Assumes nothing.
-use Rattle.std.specs.Prelude.{◌≡◌, ℕ, suc, ◌<◌, ◌≤◌, List, slice_index}
+use Rattle.std.specs.Prelude.{◌≡◌, ℕ, suc, ◌<◌, List, slice_index}
 use Rattle.lts.specs.Lts.{Lts}
 use Rattle.hml.specs.Bisimilarity.{Agree}
 use Rattle.refine.specs.declared.classes.Classes.{Classes}

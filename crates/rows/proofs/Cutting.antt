@@ -1,7 +1,7 @@
 -- The fields of a line: by the relation and by the function, and one after the other. Assumes nothing.
 use Rattle.std.proofs.Common.{◌≡◌, ℕ, ◌+◌, ◌<◌, ◌≤◌, Bool, true, false, cond, List, [], ◌∷◌, ◌++◌, map, length, get_or, take, drop, set, sym, refl, ap, ◌∙◌, subst, ⊎_elim, append_assoc, arith, length-append, length-take, Bor}
 use Rattle.std.proofs.lemmas.List.{drop-drop, take_all, take_more_set, map_push, length-map, get_or-map, get_or-take}
-use Rattle.std.proofs.lemmas.Bool.{eq-eqb, ne_eqb, cond-true, cond-false, cases_eq}
+use Rattle.std.proofs.lemmas.Bool.{ne_eqb, cond-true, cond-false, cases_eq}
 use Rattle.sheet.specs.Parts.{Lacks, length_to, begins, one}
 use Rattle.sheet.specs.Cursors.{bytes, place, rest}
 use Rattle.sheet.specs.Lines.{onto}

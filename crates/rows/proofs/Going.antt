@@ -1,5 +1,5 @@
 -- How a table is read line by line: what holds of the lines that are read. Assumes nothing.
-use Rattle.std.proofs.Common.{◌≡◌, ℕ, suc, ◌+◌, ◌<◌, ◌≤◌, true, false, List, [], ◌∷◌, ◌++◌, map, length, get_or, drop, sym, refl, ap, ◌∙◌, subst, append_assoc, append-nil, arith, length-append}
+use Rattle.std.proofs.Common.{◌≡◌, ℕ, suc, ◌+◌, ◌<◌, true, false, List, [], ◌∷◌, ◌++◌, length, get_or, drop, sym, refl, ap, ◌∙◌, subst, append_assoc, append-nil, arith, length-append}
 use Rattle.sheet.specs.Lines.{Lines, lines_of, is_remark, blanks}
 use Rattle.sheet.specs.Reading.{unread, Gives}
 use Rattle.sheet.specs.declared.line.Numbered.{Numbered}

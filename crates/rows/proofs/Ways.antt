@@ -1,8 +1,8 @@
 -- What each line of a sheet adds to what is read. Assumes nothing.
-use Rattle.std.proofs.Common.{◌≡◌, ℕ, suc, ◌+◌, ◌<◌, ◌≤◌, Bool, true, false, List, [], ◌∷◌, ◌++◌, map, length, get_or, drop, None, Ok, Err, sym, refl, ap, ◌∙◌, subst, arith, length-drop, Bor}
+use Rattle.std.proofs.Common.{◌≡◌, ℕ, suc, ◌<◌, ◌≤◌, Bool, true, false, List, [], ◌∷◌, ◌++◌, map, length, get_or, None, Ok, Err, sym, refl, ap, ◌∙◌, subst, arith, length-drop, Bor}
 use Rattle.std.proofs.lemmas.List.{map_push, length-map, length_push}
 use Rattle.std.proofs.lemmas.Bool.{both_ways, or_from, or_left, or_right, not_from_true, not_from_false}
-use Rattle.sheet.specs.Lines.{Lines, lines_of, is_remark, blanks}
+use Rattle.sheet.specs.Lines.{lines_of, is_remark, blanks}
 use Rattle.sheet.specs.Reading.{unread, Holds, Gives, NextLine}
 use Rattle.sheet.specs.declared.line.Line.{Line}
 use Rattle.sheet.specs.declared.line.Line.TheVariants as is
@@ -10,7 +10,7 @@ use Rattle.sheet.specs.declared.line.Numbered.{Numbered}
 use Rattle.sheet.specs.declared.lines.Lines.{Lines as Reader}
 use Rattle.sheet.proofs.Splitting.{lines_are_found}
 use Rattle.rows.specs.Fields.{fields_of}
-use Rattle.rows.specs.Format.{Transition, IsHeader, skipped, Table}
+use Rattle.rows.specs.Format.{IsHeader, skipped, Table}
 use Rattle.rows.specs.Held.{transition_of}
 use Rattle.rows.specs.Reading.{RowRead, Gone, Begun}
 use Rattle.rows.specs.Verdict.{AllSkipped, LineAt, RowAt, Refused, Accepted}

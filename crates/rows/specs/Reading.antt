@@ -1,5 +1,5 @@
 -- What the reader knows while it goes through a sheet. Assumes nothing.
-use Rattle.std.specs.Prelude.{◌≡◌, ℕ, ◌<◌, ◌≤◌, true, List, [], ◌∷◌, ◌++◌, map, length, Some, None, Ok, Err, Option, Result}
+use Rattle.std.specs.Prelude.{◌≡◌, ℕ, ◌<◌, ◌≤◌, true, List, [], ◌++◌, map, length, Ok, Err, Result}
 use Rattle.sheet.specs.Lines.{lines_of}
 use Rattle.sheet.specs.Reading.{unread}
 use Rattle.sheet.specs.declared.lines.Lines.{Lines}

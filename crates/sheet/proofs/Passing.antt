@@ -1,5 +1,5 @@
 -- A cursor that reads a line and passes its end. Assumes nothing.
-use Rattle.std.proofs.Common.{◌≡◌, ℕ, ◌+◌, ◌<◌, Bool, List, ◌∷◌, length, take, drop, sym, refl, ap, ◌∙◌}
+use Rattle.std.proofs.Common.{◌≡◌, ◌+◌, ◌<◌, Bool, ◌∷◌, length, take, drop, sym, refl, ap, ◌∙◌}
 use Rattle.sheet.specs.Parts.{length_to, begins, one}
 use Rattle.sheet.specs.Cursors.{bytes, place, rest}
 use Rattle.sheet.specs.Lines.{lines_of}

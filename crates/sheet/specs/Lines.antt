@@ -1,5 +1,5 @@
 -- The lines of a sheet. Assumes nothing.
-use Rattle.std.specs.Prelude.{◌≡◌, ℕ, suc, ◌+◌, ◌<◌, ◌≤◌, Bool, true, false, cond, List, [], ◌∷◌, ◌++◌, length, ◌==◌}
+use Rattle.std.specs.Prelude.{◌≡◌, ℕ, suc, ◌≤◌, Bool, cond, List, [], ◌∷◌, ◌++◌, length, ◌==◌}
 use Rattle.sheet.specs.Parts.{begins, Lacks}
 
 -- The text is these lines, each ended by byte 10, the last one by the end where it is not empty. A final byte 10 begins

@@ -1,5 +1,5 @@
 -- The parts of a text between marks. Assumes nothing.
-use Rattle.std.specs.Prelude.{◌≡◌, ℕ, suc, Bool, true, false, cond, List, [], ◌∷◌, ◌==◌, ◌≢◌}
+use Rattle.std.specs.Prelude.{ℕ, suc, Bool, true, false, cond, List, [], ◌∷◌, ◌==◌, ◌≢◌}
 
 -- How many bytes stand before the first mark, or before the end where there is none.
 abbrev pub length_to : ℕ → List ℕ → ℕ

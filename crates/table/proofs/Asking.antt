@@ -1,5 +1,5 @@
 -- What the slots of a table record say of its ways. Assumes nothing.
-use Rattle.std.proofs.Common.{◌≡◌, ℕ, suc, ◌+◌, ◌<◌, ◌≤◌, List, [], map, length, get_or, Some, None, vec_items, sym, refl, ap, ◌∙◌, ⊎_elim, arith}
+use Rattle.std.proofs.Common.{◌≡◌, ℕ, ◌+◌, ◌<◌, ◌≤◌, List, map, length, get_or, Some, None, vec_items, sym, ap, ◌∙◌, ⊎_elim, arith}
 use Rattle.std.proofs.lemmas.List.{length-map, get_or-map, get_or_past}
 use Rattle.std.proofs.lemmas.Bool.{cases_lt}
 use Rattle.rows.specs.Answers.{transitions}
@@ -7,7 +7,6 @@ use Rattle.rows.specs.Format.{Transition}
 use Rattle.rows.specs.Held.{transition_of}
 use Rattle.table.specs.Index.{from_below, no_slot, no_row}
 use Rattle.table.specs.Meaning.{rows_from, way_of, ways_of}
-use Rattle.table.specs.declared.slot.Slot.{Slot}
 use Rattle.table.specs.declared.table.Table.{Table}
 use Rattle.table.specs.Counting.{below_next, below_few}
 use Rattle.table.specs.Limiting.{none_past}

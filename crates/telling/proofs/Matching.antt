@@ -1,6 +1,6 @@
 -- The first move whose place is not marked is the first unmatched one, and it chooses the line.
-use Rattle.std.proofs.Common.{◌≡◌, ℕ, zero, suc, ◌+◌, ◌-◌, ◌*◌, ◌<◌, ◌≤◌, min, Bool, true, false, cond, ◌||◌, eqb, List, [], ◌∷◌, get_or, Some, None, Option, sym, refl, ap, ◌∙◌, subst, inl, inr, ⊎_elim, arith}
-use Rattle.std.proofs.lemmas.Bool.{cases_Bool, both_ways, or_cases, or_left, or_right, eqb-true, eq-eqb}
+use Rattle.std.proofs.Common.{◌≡◌, ℕ, zero, suc, ◌+◌, ◌-◌, ◌*◌, ◌<◌, ◌≤◌, min, Bool, true, false, cond, eqb, List, [], ◌∷◌, get_or, Some, None, Option, sym, refl, ap, subst, ⊎_elim, arith}
+use Rattle.std.proofs.lemmas.Bool.{both_ways, or_cases, or_left, or_right, eqb-true, eq-eqb}
 use Rattle.std.specs.Option.{option_or}
 use Rattle.lts.specs.Lts.{Lts, Way, Move, way_at}
 use Rattle.pair.specs.Wide.{Wide}
@@ -8,13 +8,13 @@ use Rattle.hml.specs.Bisimilarity.{Matched, Bisimilar, Agree}
 use Rattle.hml.specs.Distinguishing.{FirstApart, FirstUnmatched}
 use Rattle.hml.specs.Distinguishing.Chosen.{by_may, by_must}
 use Rattle.hml.proofs.Agreement.{agree_sym, matched_wider}
-use Rattle.hml.proofs.Deciding.{none_moves, same_move}
+use Rattle.hml.proofs.Deciding.{none_moves}
 use Rattle.refine.specs.Apart.{PartsAt}
 use Rattle.refine.specs.Classes.{Classed}
 use Rattle.refine.proofs.Naming.{class_low, agree_same, same_agree}
 use Rattle.telling.specs.Choosing.{depth_before, choice_of, Chooses}
 use Rattle.telling.specs.declared.choosing.Choice.{Choice}
-use Rattle.telling.specs.Marking.{place_of, marked, fresh, first_fresh, first_unlike}
+use Rattle.telling.specs.Marking.{place_of, marked, first_fresh, first_unlike}
 
 -- What a search by marks finds: every move is marked, or this is the first that is not.
 abbrev Found : List ℕ → (ℕ → Bool) → List Way → Way → Type 0

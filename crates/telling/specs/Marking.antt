@@ -1,5 +1,5 @@
 -- Marks for the moves of a state: a place for each action and each name of the target's class. Assumes nothing.
-use Rattle.std.specs.Prelude.{ℕ, ◌+◌, ◌*◌, min, Bool, true, false, cond, ◌||◌, List, [], ◌∷◌, Some, None, ◌==◌, slice_index}
+use Rattle.std.specs.Prelude.{ℕ, ◌+◌, ◌*◌, min, Bool, false, cond, ◌||◌, List, [], ◌∷◌, Some, None, ◌==◌, slice_index}
 use Rattle.std.specs.Option.{option_or}
 use Rattle.lts.specs.Lts.{Lts, Way}
 

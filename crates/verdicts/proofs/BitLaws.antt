@@ -1,5 +1,5 @@
 -- One bit of a word, under `|`, `^` and `&`, and past the end of the word.
-use Rattle.std.proofs.Common.{◌≡◌, ℕ, zero, suc, ◌+◌, ◌-◌, ◌/◌, ◌%◌, ◌^◌, ◌<◌, ◌≤◌, true, false, not, ◌&&◌, ◌||◌, eqb, ◌⊎◌, refl, ap, ◌∙◌, ⊎_elim, pow-suc, arith, pow_mono}
+use Rattle.std.proofs.Common.{◌≡◌, ℕ, zero, suc, ◌+◌, ◌-◌, ◌/◌, ◌%◌, ◌^◌, ◌<◌, ◌≤◌, true, false, not, ◌&&◌, ◌||◌, eqb, refl, ap, ◌∙◌, ⊎_elim, pow-suc, arith, pow_mono}
 use native.Mathlib.Nat.{div_self, div-eq_of_lt, mul-div_right, mul-mod_left}
 use lib.Bits.{bit_and, bit_or, bit_xor}
 use Rattle.std.proofs.lemmas.Nat.{and_mask, or_shr, or_mod, and_shr, and_mod, xor_shr, xor_mod, mod_below, pow_pos, pow-add, pow_below}

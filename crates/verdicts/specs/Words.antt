@@ -1,5 +1,5 @@
 -- Verdicts as bits of words: bit i of word s says whether formula i holds at state s. Assumes nothing.
-use Rattle.std.specs.Prelude.{◌≡◌, ℕ, ◌/◌, ◌%◌, ◌^◌, ◌<◌, Bool, T, ◌↔◌, List, length, ◌==◌, slice_index}
+use Rattle.std.specs.Prelude.{ℕ, ◌/◌, ◌%◌, ◌^◌, ◌<◌, Bool, T, ◌↔◌, List, length, ◌==◌, slice_index}
 use Rattle.lts.specs.Lts.{Lts}
 use Rattle.hml.specs.Logic.{Formula, Sat}
 use Rattle.formula.specs.Entries.{formula_at}

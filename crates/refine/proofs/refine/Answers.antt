@@ -1,5 +1,5 @@
 -- Each round keeps the state of refinement, and the first that adds no name ends it.
-use Rattle.std.proofs.Common.{ℕ, ◌<◌, List, replicate, arith}
+use Rattle.std.proofs.Common.{◌<◌, replicate, arith}
 use Rattle.refine.proofs.Refining.{names_few, begins, rests, refining_more}
 use Rattle.refine.proofs.refine.Goals as goal
 

@@ -1,5 +1,5 @@
 -- The name of the class is looked at first.
-use Rattle.std.proofs.Common.{◌≡◌, suc, ◌<◌, get_or, sym, subst, arith}
+use Rattle.std.proofs.Common.{suc, ◌<◌, get_or, sym, subst, arith}
 use Rattle.refine.specs.Classes.{Names}
 use Rattle.refine.specs.Signatures.{Marked}
 use Rattle.refine.proofs.Naming.{class_low}

@@ -1,6 +1,6 @@
 -- The new names are looked at one by one.
-use Rattle.std.proofs.Common.{◌≡◌, get_or, sym, subst, arith, below_more}
-use Rattle.refine.specs.Signatures.{Alike, Compared, Marked}
+use Rattle.std.proofs.Common.{get_or, sym, subst, arith, below_more}
+use Rattle.refine.specs.Signatures.{Alike, Marked}
 use Rattle.refine.proofs.Signing.{classed_below}
 use Rattle.refine.proofs.Placing.{fresh_names, alike_names, none_names}
 use Rattle.refine.proofs.round.find_new.Goals as goal

@@ -1,5 +1,5 @@
 -- The state is marked and weighed, its name is found, and both are entered.
-use Rattle.std.proofs.Common.{◌≡◌, arith}
+use Rattle.std.proofs.Common.{arith}
 use Rattle.refine.proofs.Signing.{classed_below}
 use Rattle.refine.proofs.Placing.{placed_more}
 use Rattle.refine.proofs.round.place.Goals as goal

@@ -1,5 +1,5 @@
 -- Signatures of one weight are compared way by way, and those of different weights are different.
-use Rattle.std.proofs.Common.{◌≡◌, get_or, sym, refl, ap, ◌∙◌, subst}
+use Rattle.std.proofs.Common.{◌≡◌, get_or, sym, refl, ◌∙◌, subst}
 use Rattle.std.proofs.lemmas.Bool.{true≢false, ne_eqb}
 use Rattle.lts.specs.Lts.{way_at}
 use Rattle.refine.specs.Signatures.{code_of}

@@ -1,4 +1,4 @@
-use Rattle.std.proofs.Common.{◌≡◌, ◌+◌, ◌<◌, length, take, set, sym, ap, ◌∙◌, append-nil, arith, rules}
+use Rattle.std.proofs.Common.{◌+◌, ◌<◌, length, take, set, sym, ap, ◌∙◌, append-nil, arith}
 use Rattle.formula.specs.declared.entry.Entry.TheVariants.{True}
 use Rattle.entering.specs.Held.{entries_in}
 use Rattle.entering.proofs.Behind.{behind_more, behind_all, held_count}

@@ -1,4 +1,4 @@
-use Rattle.std.proofs.Common.{◌≡◌, ◌+◌, ◌++◌, map, length, take}
+use Rattle.std.proofs.Common.{◌≡◌, ◌+◌, ◌++◌, map, take}
 use Rattle.formula.specs.Entries.{raised}
 use Rattle.entering.specs.Held.{entries_in}
 use Rattle.entering.proofs.held.Held.append.Given as goal

@@ -1,5 +1,5 @@
 -- States with one name are bisimilar, and others part where their names part.
-use Rattle.std.proofs.Common.{◌≡◌, get_or, sym, ap, ◌∙◌, subst, subst₂}
+use Rattle.std.proofs.Common.{get_or, sym, ◌∙◌, subst, subst₂}
 use Rattle.hml.specs.Distinguishing.{FirstApart}
 use Rattle.refine.specs.Climbs.{IsName}
 use Rattle.refine.proofs.Parting.{one_name_bisimilar, name_state, name_own, name_bisimilar, parts_moves}

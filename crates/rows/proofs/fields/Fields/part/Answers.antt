@@ -1,5 +1,5 @@
-use Rattle.std.proofs.Common.{◌<◌, length, take, sym, ap, ◌∙◌, arith, length-take, rules}
-use Rattle.std.proofs.lemmas.List.{get_or-map, get_or-take, get_or_past, length-map}
+use Rattle.std.proofs.Common.{sym, arith}
+use Rattle.std.proofs.lemmas.List.{get_or_past}
 use Rattle.rows.proofs.Cutting.{part_held}
 use Rattle.rows.proofs.fields.Fields.part.Goals as goal
 
