@@ -14,6 +14,6 @@ returns g c =
       held = refl;
       lawful = settling_takes g.L.System.means g.R.System.means g.met.L.System.limits g.met.R.System.limits c.args.self.pair c.args.self.held
           (record { words = c.judge.new.words; classes = c.refine-classes.result; distances = replicate 2048 0 })
-          (λ sound. subst (λ es. AllSound es → length es ≤ 128 → Judged (open_system g.L.System.means g.R.System.means c.args.self) es c.judge.new.words) c.as-slice.ensures c.judge.ensures sound few)
+          (λ sound. subst (λ es. AllSound es → length es ≤ 128 → Judged (open_system g.L.System.means g.R.System.means c.args.self) es c.judge.new.words) c.as_slice.ensures c.judge.ensures sound few)
           c.refine-classes.ensures;
     }
