@@ -1,5 +1,5 @@
 -- What the parts answer, as the calls define it.
-use Rattle.std.proofs.Common.{◌≡◌, ℕ, ◌<◌, T, eqb, ◌↔◌, List, length, get_or, Some, None, Ok, Err, Option, sym, ◌∙◌, eqb→eq}
+use Rattle.std.proofs.Common.{◌≡◌, ℕ, ◌<◌, eqb, List, length, get_or, Some, None, Ok, Err, Option, sym, ◌∙◌, eqb→eq}
 use Rattle.std.proofs.lemmas.Bool.{eq-eqb}
 use Rattle.lts.specs.Lts.{Lts}
 use Rattle.hml.specs.declared.step.Step.{Step}

@@ -1,5 +1,5 @@
 -- A call that is answered as defined goes on from every history that led to the bench, lawfully.
-use Rattle.std.proofs.Common.{◌≡◌, ℕ, ◌≤◌, Bool, List, [], ◌∷◌, length, Ok, Err, Option, Result, sym, refl, subst, arith}
+use Rattle.std.proofs.Common.{◌≡◌, ℕ, Bool, List, [], ◌∷◌, Ok, Err, Option, Result, sym, refl, subst, arith}
 use Rattle.lts.specs.Lts.{Lts, Limits}
 use Rattle.lts.specs.Joined.{joined}
 use Rattle.hml.specs.declared.step.Step.{Step}
@@ -11,8 +11,8 @@ use Rattle.entering.specs.Held.{entries_in, HeldAfter}
 use Rattle.entering.specs.declared.held.Held.{Held}
 use Rattle.law.specs.Answers.{Entered, Ruled, Reached, Compared, Told}
 use Rattle.law.specs.History.{Call, Phase, History, AsDefined, Lawful, entries_held}
-use Rattle.law.specs.History.Call.{enter, settle, reopen, rule, reach, alike, tell}
-use Rattle.law.specs.History.Phase.{Open, Settled}
+use Rattle.law.specs.History.Call.{enter, rule, reach, alike, tell}
+use Rattle.law.specs.History.Phase.{Settled}
 use Rattle.law.specs.History.History.{opened, entered, settled, reopened, ruled, reached, compared, told}
 use Rattle.law.specs.declared.refusals.EnterRefusal.{EnterRefusal}
 use Rattle.law.specs.declared.refusals.RuleRefusal.{RuleRefusal}
@@ -22,9 +22,8 @@ use Rattle.law.specs.declared.refusals.TellRefusal.{TellRefusal}
 use Rattle.law.proofs.Lawful.{every_history_is_lawful}
 use Rattle.verdicts.specs.Words.{Judged}
 use Rattle.refine.specs.Classes.{Refined}
-use Rattle.refine.specs.declared.classes.Classes.{Classes}
 use Rattle.pair.specs.declared.pair.Pair.{Pair}
-use Rattle.bench.specs.Keeping.{open_system, settled_system, KeptOpen, KeptSettled, OpenTakes, Settles, SettledTakes, Reopens}
+use Rattle.bench.specs.Keeping.{KeptOpen, OpenTakes, Settles, SettledTakes, Reopens}
 use Rattle.bench.specs.declared.inner.Inner.{Inner}
 use Rattle.bench.specs.declared.open_bench.OpenBench.{OpenBench}
 use Rattle.bench.specs.declared.settled_bench.SettledBench.{SettledBench}

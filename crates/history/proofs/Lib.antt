@@ -1,2 +1,3 @@
-pub mod Turning
-pub mod Noting
+mod Going
+mod Noting
+mod Turning

@@ -1,5 +1,5 @@
 -- A call that the bench takes is noted.
-use Rattle.std.proofs.Common.{◌≡◌, ℕ, Bool, List, ◌∷◌, Some, vec_items, Option, Result, sym, refl, ◌∙◌, subst}
+use Rattle.std.proofs.Common.{◌≡◌, ℕ, Bool, List, ◌∷◌, Some, vec_items, Option, Result, sym, subst}
 use Rattle.lts.specs.Lts.{Lts}
 use Rattle.hml.specs.declared.step.Step.{Step}
 use Rattle.hml.specs.declared.line.Line.{Line}

@@ -3,6 +3,6 @@
 
 mod asking;
 pub mod calls;
-mod entering;
+mod lists;
 mod rounds;
 pub mod running;

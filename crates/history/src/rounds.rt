@@ -4,7 +4,7 @@ ghost use Rattle.history.specs.Running.{Goes, GoesBack, GoesBackAll};
 
 use crate::asking::ask_all;
 use crate::calls::Round;
-use crate::entering::enter_all;
+use crate::lists::enter_all;
 use bench::open_bench::OpenBench;
 use bench::settled_bench::SettledBench;
 use lts::System;

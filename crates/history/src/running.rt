@@ -5,7 +5,7 @@ ghost use Rattle.law.specs.History.{Call, Phase, History, Lawful};
 ghost use Rattle.history.specs.Noting.{WrittenDown};
 
 use crate::calls::{Ending, Script};
-use crate::entering::enter_all;
+use crate::lists::enter_all;
 use crate::rounds::{run_round, run_rounds};
 use bench::open_bench::OpenBench;
 use lts::System;

@@ -1,4 +1,4 @@
-use Rattle.std.proofs.Common.{Some, sym, refl, arith, rules}
+use Rattle.std.proofs.Common.{Some, sym, refl, arith}
 use Rattle.std.specs.Vec.{with_items}
 use Rattle.std.proofs.lemmas.List.{with_items_is}
 use Rattle.bench.specs.Keeping.{settled_system, KeptSettled}
@@ -24,8 +24,8 @@ returns-in-Reach g c =
     record {
       systems = c.reach.ensures.systems;
       taken = reach_noted (settled_system g.L.System.means g.R.System.means b) (KeptSettled g.L.System.means g.R.System.means b) (KeptSettled g.L.System.means g.R.System.means c.reach.new.self)
-          c.args.question.now q (record { formula = q.formula; state = q.state; path = with_items q.path c.reach.new.path; answer = Some r }) c.as-mut-slice.result.now c.reach.new.path r
-          c.in-Reach.is c.as-mut-slice.ensures.value (sym (with_items_is q.path c.reach.new.path (omega (arith, c.reach.auto.path, c.as-mut-slice.ensures.len)))) refl refl refl c.reach.ensures.lawful;
+          c.args.question.now q (record { formula = q.formula; state = q.state; path = with_items q.path c.reach.new.path; answer = Some r }) c.as_mut_slice.result.now c.reach.new.path r
+          c.in-Reach.is c.as_mut_slice.ensures.value (sym (with_items_is q.path c.reach.new.path (omega (arith, c.reach.auto.path, c.as_mut_slice.ensures.len)))) refl refl refl c.reach.ensures.lawful;
     }
 
 pub returns-in-Alike : goal.returns-in-Alike
@@ -47,6 +47,6 @@ returns-in-Tell g c =
     record {
       systems = refl;
       taken = tell_noted (settled_system g.L.System.means g.R.System.means b) (KeptSettled g.L.System.means g.R.System.means b) (KeptSettled g.L.System.means g.R.System.means b)
-          c.args.question.now q (record { first = q.first; second = q.second; lines = with_items q.lines c.tell.new.lines; answer = Some r }) c.as-mut-slice-in-Tell.result.now c.tell.new.lines r
-          c.in-Tell.is c.as-mut-slice-in-Tell.ensures.value (sym (with_items_is q.lines c.tell.new.lines (omega (arith, c.tell.auto.lines, c.as-mut-slice-in-Tell.ensures.len)))) refl refl refl c.tell.ensures.lawful;
+          c.args.question.now q (record { first = q.first; second = q.second; lines = with_items q.lines c.tell.new.lines; answer = Some r }) c.as_mut_slice-in-Tell.result.now c.tell.new.lines r
+          c.in-Tell.is c.as_mut_slice-in-Tell.ensures.value (sym (with_items_is q.lines c.tell.new.lines (omega (arith, c.tell.auto.lines, c.as_mut_slice-in-Tell.ensures.len)))) refl refl refl c.tell.ensures.lawful;
     }

@@ -1,4 +1,4 @@
-use Rattle.std.proofs.Common.{refl, ◌∙◌, arith, rules}
+use Rattle.std.proofs.Common.{refl, ◌∙◌}
 use Rattle.bench.specs.Keeping.{KeptSettled}
 use Rattle.history.specs.Noting.{Asked}
 use Rattle.history.proofs.Turning.{run_none, run_more, run_all}

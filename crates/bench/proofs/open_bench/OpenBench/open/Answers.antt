@@ -1,4 +1,4 @@
-use Rattle.std.proofs.Common.{refl, rules}
+use Rattle.std.proofs.Common.{refl}
 use Rattle.bench.proofs.Taking.{opening_takes}
 use Rattle.bench.proofs.open_bench.OpenBench.open.Goals as goal
 

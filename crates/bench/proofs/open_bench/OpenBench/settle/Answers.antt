@@ -1,4 +1,4 @@
-use Rattle.std.proofs.Common.{◌≤◌, List, length, replicate, refl, subst, rules}
+use Rattle.std.proofs.Common.{◌≤◌, length, replicate, refl, subst, rules}
 use Rattle.formula.specs.Entries.{AllSound}
 use Rattle.entering.specs.Held.{entries_in}
 use Rattle.verdicts.specs.Words.{Judged}

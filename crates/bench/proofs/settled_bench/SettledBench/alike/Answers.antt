@@ -1,4 +1,4 @@
-use Rattle.std.proofs.Common.{Ok, Err, rules}
+use Rattle.std.proofs.Common.{Ok, Err}
 use Rattle.law.specs.declared.refusals.AlikeRefusal.TheVariants.{NoState}
 use Rattle.bench.proofs.Taking.{comparing_takes}
 use Rattle.bench.proofs.settled_bench.SettledBench.alike.Goals as goal

@@ -1,4 +1,3 @@
-use Rattle.std.proofs.Common.{rules}
 use Rattle.pair.specs.Joining.{joined_wide}
 use Rattle.bench.proofs.Answering.{names_alike}
 use Rattle.bench.specs.Keeping.{settled_system}

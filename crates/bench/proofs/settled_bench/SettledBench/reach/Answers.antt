@@ -1,4 +1,4 @@
-use Rattle.std.proofs.Common.{Ok, Err, refl, arith, rules}
+use Rattle.std.proofs.Common.{Ok, Err, refl, arith}
 use Rattle.formula.specs.Entries.{formula_at}
 use Rattle.entering.specs.Held.{entries_in}
 use Rattle.law.specs.declared.refusals.ReachRefusal.TheVariants.{NoFormula, NoState, PathShort}

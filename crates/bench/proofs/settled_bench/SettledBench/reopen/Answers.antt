@@ -1,4 +1,4 @@
-use Rattle.std.proofs.Common.{refl, rules}
+use Rattle.std.proofs.Common.{refl}
 use Rattle.bench.proofs.Taking.{reopening_takes}
 use Rattle.bench.proofs.settled_bench.SettledBench.reopen.Goals as goal
 

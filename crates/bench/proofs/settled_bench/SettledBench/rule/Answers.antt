@@ -1,4 +1,4 @@
-use Rattle.std.proofs.Common.{Ok, Err, arith, rules}
+use Rattle.std.proofs.Common.{Ok, Err, arith}
 use Rattle.law.specs.declared.refusals.RuleRefusal.TheVariants.{NoFormula, NoState}
 use Rattle.bench.proofs.Taking.{ruling_takes}
 use Rattle.bench.proofs.settled_bench.SettledBench.rule.Goals as goal

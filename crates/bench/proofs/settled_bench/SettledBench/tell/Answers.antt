@@ -1,4 +1,4 @@
-use Rattle.std.proofs.Common.{Ok, Err, refl, rules}
+use Rattle.std.proofs.Common.{Ok, Err, refl}
 use Rattle.law.specs.declared.refusals.TellRefusal.TheVariants.{NoState, Alike, TooLong}
 use Rattle.bench.specs.Keeping.{settled_system}
 use Rattle.bench.proofs.Answering.{lines_told, long_told}

@@ -2,7 +2,7 @@ use Rattle.std.proofs.Common.{◌≡◌}
 use Rattle.bench.specs.Keeping.{KeptOpen}
 use Rattle.history.specs.Noting.{Entered}
 use Rattle.history.proofs.Turning.{Run}
-use Rattle.history.proofs.entering.enter_all.Given as goal
+use Rattle.history.proofs.lists.enter_all.Given as goal
 
 abbrev pub invariant-loop-call : goal.invariant-loop-call
 invariant-loop-call g l =

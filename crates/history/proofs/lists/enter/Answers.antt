@@ -1,7 +1,7 @@
-use Rattle.std.proofs.Common.{Some, refl, rules}
+use Rattle.std.proofs.Common.{Some, refl}
 use Rattle.bench.specs.Keeping.{open_system, KeptOpen}
 use Rattle.history.proofs.Noting.{enter_noted}
-use Rattle.history.proofs.entering.enter.Goals as goal
+use Rattle.history.proofs.lists.enter.Goals as goal
 
 pub returns : goal.returns
 returns g c =
@@ -11,5 +11,5 @@ returns g c =
     record {
       systems = c.enter.ensures.systems;
       taken = enter_noted (open_system g.L.System.means g.R.System.means b) (KeptOpen g.L.System.means g.R.System.means b) (KeptOpen g.L.System.means g.R.System.means c.enter.new.self)
-          q (record { list = q.list; answer = Some r }) c.as-slice.result.now r c.as-slice.ensures.value refl refl c.enter.ensures.lawful;
+          q (record { list = q.list; answer = Some r }) c.as_slice.result.now r c.as_slice.ensures.value refl refl c.enter.ensures.lawful;
     }

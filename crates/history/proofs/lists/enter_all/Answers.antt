@@ -1,8 +1,8 @@
-use Rattle.std.proofs.Common.{refl, ◌∙◌, arith, rules}
+use Rattle.std.proofs.Common.{refl, ◌∙◌}
 use Rattle.bench.specs.Keeping.{KeptOpen}
 use Rattle.history.specs.Noting.{Entered}
 use Rattle.history.proofs.Turning.{run_none, run_more, run_all}
-use Rattle.history.proofs.entering.enter_all.Goals as goal
+use Rattle.history.proofs.lists.enter_all.Goals as goal
 
 pub loop-call-init : goal.loop-call-init
 loop-call-init g c = (refl, run_none Entered (KeptOpen g.L.System.means g.R.System.means c.args.bench.now) c.args.calls.now)
