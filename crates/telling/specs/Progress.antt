@@ -1,6 +1,6 @@
 -- Lines of which the first are written. Assumes nothing.
 use Rattle.std.specs.Prelude.{◌≡◌, ℕ, ◌+◌, ◌<◌, min, List, ◌++◌, length, take, drop, Ok, Err, Result}
-use Rattle.std.specs.List.{AllByRecursion as All}
+use Rattle.std.specs.List.{AllByRecursion}
 use Rattle.lts.specs.Lts.{Lts}
 use Rattle.hml.specs.Bisimilarity.{Agree}
 use Rattle.hml.specs.Distinguishing.{Written, LinesFor}
@@ -15,7 +15,7 @@ Apart m d p = (p.0 < m.states) × (p.1 < m.states) × ¬ Agree m d p.0 p.1
 -- The first i lines of (s, t) are written: these are the pairs of all lines that are given out so far. Before and after
 -- are the memory.
 pub record Progress (m : Lts) (s t d i : ℕ) (pairs : List (ℕ × ℕ)) (before after : List Line) : Type 0 where
-  pub apart : All (Apart m d) pairs
+  pub apart : AllByRecursion (Apart m d) pairs
   pub kept : drop i after ≡ drop i before
   -- whatever lines go on for the pairs that wait complete the lines
   pub completed : (ls : List Line) → Written m (length pairs) (drop i pairs) ls → LinesFor m s t (take i after ++ ls)
