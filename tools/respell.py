@@ -1,14 +1,16 @@
 #!/usr/bin/env python3
-"""Spells the repository's own definitions and lemmas in snake case: readsText and reads-text become reads_text.
+"""Spells the repository's own definitions and lemmas as today's library does: readsText and reads-text become reads_text,
+and a fact Reads-text becomes ReadsText.
 
 usage: python3 tools/respell.py [FOLDER]      in the repository, or in a checkout of it at FOLDER
 
-A type, a fact or a module keeps its capital. What turns is each name that a text of specs/ or proofs/ declares, wherever
+A type, a fact or a module is in camel case. What turns is each name that a text of specs/ or proofs/ declares, wherever
 it stands in .antt, in clauses, and in code spans of .md. A label that the checker makes stays: what stands behind a dot
 in a file of answers, and a name that is declared as a goal. A name that a library's import brings into a file stays there.
 MEETING has the names that would fall together with another, each with the name that it gets in place of that.
 """
 
+import collections
 import os
 import re
 import sys
@@ -27,7 +29,12 @@ MEETING = {
     "walk_at": "walk_at_lem",
     "all-from": "all_from_lem",
     "any-from": "any_from_lem",
+    "bit-or": "bit_or_lem",
 }
+
+
+def in_camel_case(name):
+    return "".join(word[0].upper() + word[1:] for word in re.split("[-_]", name))
 
 
 def in_snake_case(name):
@@ -59,10 +66,13 @@ def own_names(root):
 
 
 def spelled_anew(names):
+    plain = {name: in_camel_case(name) if name[0].isupper() else in_snake_case(name) for name in names}
+    taken = collections.Counter(plain.values())
     new = {}
-    for name in names:
-        to = MEETING.get(name) or in_snake_case(name)
-        if to != name and (name[0].islower() or "-" in name):
+    for name, to in plain.items():
+        if name in MEETING and (to != name or taken[to] > 1):
+            to = MEETING[name]
+        if to != name:
             new[name] = to
     return new
 
@@ -99,7 +109,7 @@ def turned(path, text, new, crates):
 
 def turned_page(text, new):
     def span(found):
-        return re.sub(NAME, lambda m: new.get(m[0], m[0]), found[0])
+        return re.sub(r"[^\s(){}.;,@\"«»`]+", lambda m: new.get(m[0], m[0]), found[0])
 
     return SPAN.sub(span, text)
 

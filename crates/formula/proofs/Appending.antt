@@ -7,7 +7,7 @@ use Rattle.hml.specs.Logic.Formula.{tru, both, either, may, must}
 use Rattle.formula.specs.declared.entry.Entry.{Entry}
 use Rattle.formula.specs.declared.entry.Entry.TheVariants.{True, False, And, Or, May, Must}
 use Rattle.formula.specs.Entries.{formula_of, formulas, Sound, raised, appended}
-use Rattle.formula.specs.Theorems.{Appending_keeps, Appending_adds, Appending_is_sound}
+use Rattle.formula.specs.Theorems.{AppendingKeeps, AppendingAdds, AppendingIsSound}
 
 -- The formulas of entries go behind those given, one for each entry.
 formulas_behind : (fs : List Formula) (es : List Entry) → (gs : List Formula) × (formulas fs es ≡ fs ++ gs) × (length gs ≡ length es)
@@ -23,7 +23,7 @@ formulas_append : (fs : List Formula) (es list : List Entry) → formulas fs (es
 formulas_append fs [] list = refl
 formulas_append fs (e ∷ es) list = formulas_append (fs ++ formula_of fs e ∷ []) es list
 
-pub appending_keeps : Appending_keeps
+pub appending_keeps : AppendingKeeps
 appending_keeps es list n l =
     let fs = formulas [] es in
     let x = formulas_behind fs (map (raised (length es)) list) in
@@ -45,7 +45,7 @@ raised_formulas ps gs (e ∷ es) =
     let one = ap (λ f. (ps ++ gs) ++ f ∷ []) (raised_formula ps gs e) ∙ append_assoc ps gs (formula_of gs e ∷ []) in
     ap (λ fs. formulas fs (map (raised (length ps)) es)) one ∙ raised_formulas ps (gs ++ formula_of gs e ∷ []) es
 
-pub appending_adds : Appending_adds
+pub appending_adds : AppendingAdds
 appending_adds es list n s l =
     let fs = formulas [] es in
     let gs = formulas [] list in
@@ -63,7 +63,7 @@ raised_sound n k (Or i j) h = omega arith
 raised_sound n k (May a i) h = omega arith
 raised_sound n k (Must a i) h = omega arith
 
-pub appending_is_sound : Appending_is_sound
+pub appending_is_sound : AppendingIsSound
 appending_is_sound es list h g k l = go (cases_lt k (length es))
   where
     more : List Entry

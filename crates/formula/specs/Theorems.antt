@@ -4,13 +4,13 @@ use Rattle.formula.specs.Entries.{formula_at, AllSound, appended}
 use Rattle.formula.specs.declared.entry.Entry.{Entry}
 
 -- A formula keeps its meaning as entries are appended.
-abbrev pub Appending_keeps : Type 0
-Appending_keeps = (es list : List Entry) (n : ℕ) → n < length es → formula_at (appended es list) n ≡ formula_at es n
+abbrev pub AppendingKeeps : Type 0
+AppendingKeeps = (es list : List Entry) (n : ℕ) → n < length es → formula_at (appended es list) n ≡ formula_at es n
 
 -- An entry of a sound list stands for the same formula once the list is appended.
-abbrev pub Appending_adds : Type 0
-Appending_adds = (es list : List Entry) (n : ℕ) → AllSound list → n < length list → formula_at (appended es list) (length es + n) ≡ formula_at list n
+abbrev pub AppendingAdds : Type 0
+AppendingAdds = (es list : List Entry) (n : ℕ) → AllSound list → n < length list → formula_at (appended es list) (length es + n) ≡ formula_at list n
 
 -- What a sound list is appended to stays sound.
-abbrev pub Appending_is_sound : Type 0
-Appending_is_sound = (es list : List Entry) → AllSound es → AllSound list → AllSound (appended es list)
+abbrev pub AppendingIsSound : Type 0
+AppendingIsSound = (es list : List Entry) → AllSound es → AllSound list → AllSound (appended es list)

@@ -7,7 +7,7 @@ use Rattle.grammar.specs.Order.{good, bad, Passes, Tested, Fits, reads, ends, re
 use Rattle.grammar.specs.Grammar.{ors, size}
 use Rattle.grammar.specs.Verdict.{Is, Viable, Spot, outside, inside, second, among, beginning, entries, depth_of, tests, Out, Verdict}
 use Rattle.grammar.specs.Machine.{Ctx, top, within, State, await, have, dead, run, start, joined, outer, whole, ending, begun, begun_at, depth, Alive, checked, machine, read}
-use Rattle.grammar.specs.Theorems.{Text_is_one_formula, Entries_are_counted, Machine_is_exact, Verdict_is_one, Accepted_is_derived, MalformedAt, Malformed_is_first}
+use Rattle.grammar.specs.Theorems.{TextIsOneFormula, EntriesAreCounted, MachineIsExact, VerdictIsOne, AcceptedIsDerived, MalformedAt, MalformedIsFirst}
 use Rattle.grammar.proofs.Ordering.{ordered, first_is_bad}
 use Rattle.grammar.proofs.Walking.{checked_many, checked_deep, checked_within}
 use Rattle.grammar.proofs.Completeness.{run_text, text_ends}
@@ -68,11 +68,11 @@ fits limit = record {
 }
 
 -- A text is at most one formula.
-pub unique : Text_is_one_formula
+pub unique : TextIsOneFormula
 unique s f g x y = cc (text_ends s f 0 x, text_ends s g 0 y)
 
 -- As many entries begin in the text of a formula as the formula has.
-pub counted : Entries_are_counted
+pub counted : EntriesAreCounted
 counted s f t =
     let x = run_text t top in
     let many = entries_begun s (subst Alive (sym x.2) tt) in
@@ -81,11 +81,11 @@ counted s f t =
     omega (arith, counts_joined x.0 x.1)
 
 -- What the machine reads is the verdict, and the verdict is what it reads.
-pub exact : Machine_is_exact
+pub exact : MachineIsExact
 exact limit s o = ordered Formula Is 31 (tests limit) (machine limit) (fits limit) s o
 
 -- Each text has a verdict, and one only.
-pub decided : Verdict_is_one
+pub decided : VerdictIsOne
 decided limit s = (read limit s, (exact limit s (read limit s)).1 refl, λ x v. sym ((exact limit s x).0 v))
 
 -- What is read without a refusal is derived, and no more entries begin in it than the limit.
@@ -117,7 +117,7 @@ beginning_take inside (suc n) (b ∷ w) = cond_le (among (codes ">]") b) _ _ _ _
 beginning_take second (suc n) (b ∷ w) = beginning_take outside n w
 
 -- What is read is what the grammar derives, and what it derives is read where no limit is exceeded.
-pub accepted : Accepted_is_derived
+pub accepted : AcceptedIsDerived
 accepted limit s f = (λ e. (good_verdict limit s (good f) ((exact limit s (good f)).1 e) f refl).0, λ t few flat. (exact limit s (good f)).0 (reads (λ q l. passes t few flat q) t))
   where
     passes : Is s f → size f ≤ limit → ((q : ℕ) → depth_of (take q s) ≤ 16) → (q : ℕ) → Passes (tests limit) (take q s)
@@ -135,5 +135,5 @@ malformed_verdict limit s o (refused l h (inr (v, inr (few, inl x)))) p e = let 
 malformed_verdict limit s o (refused l h (inr (v, inr (few, inr x)))) p e = absurd x.1
 
 -- At 31 some text begins with the bytes before, and none with this byte too, or the text ends too soon.
-pub malformed : Malformed_is_first
+pub malformed : MalformedIsFirst
 malformed limit s p e = malformed_verdict limit s (bad 31 p) ((exact limit s (bad 31 p)).1 e) p refl

@@ -8,7 +8,7 @@ use Rattle.hml.specs.Logic.Formula.{tru, fls, both, either, may, must}
 use Rattle.grammar.specs.Grammar.{Level, unary, ands, ors, Act, silent, receives, sends, letter}
 use Rattle.grammar.specs.Grammar.{Text, truth, falsity, diamond, box, bracketed, single, conjunction, conjunctions, disjunction}
 use Rattle.grammar.specs.Writing.{placed, text_at, AllActions}
-use Rattle.grammar.specs.Theorems.{Written_is_read, Action_text_is_read}
+use Rattle.grammar.specs.Theorems.{WrittenIsRead, ActionTextIsRead}
 
 -- The text of an action is that action.
 act_received : (c : ℕ) → c < 26 → Act (action_text (1 + c)) (1 + c)
@@ -17,7 +17,7 @@ act_received c h = let same : c + 1 ≡ 1 + c = omega arith in subst₂ Act (sym
 act_sent : (c : ℕ) → c < 26 → Act (action_text (27 + c)) (27 + c)
 act_sent c h = let same : c + 27 ≡ 27 + c = omega arith in subst₂ Act (sym (text_sent c)) same (sends (letter h))
 
-pub acts : Action_text_is_read
+pub acts : ActionTextIsRead
 acts n h = ⊎_elim none (λ ne. ⊎_elim (received ne) sent (cases_lt n 27)) (cases_eq n 0)
   where
     none : n ≡ 0 → Act (action_text n) n
@@ -55,5 +55,5 @@ written_at (may a f) l h = unary_text l (diamond (acts a h.0) (written_at f unar
 written_at (must a f) l h = unary_text l (box (acts a h.0) (written_at f unary h.1))
 
 -- A formula that is written is read as itself.
-pub written : Written_is_read
+pub written : WrittenIsRead
 written f h = written_at f ors h

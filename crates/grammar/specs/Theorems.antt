@@ -9,24 +9,24 @@ use Rattle.grammar.specs.Machine.{read}
 use Rattle.grammar.specs.Writing.{formula_text, AllActions}
 
 -- A text is at most one formula.
-abbrev pub Text_is_one_formula : Type 0
-Text_is_one_formula = (s : List ℕ) (f g : Formula) → Is s f → Is s g → f ≡ g
+abbrev pub TextIsOneFormula : Type 0
+TextIsOneFormula = (s : List ℕ) (f g : Formula) → Is s f → Is s g → f ≡ g
 
 -- As many entries begin in the text of a formula as the formula has.
-abbrev pub Entries_are_counted : Type 0
-Entries_are_counted = (s : List ℕ) (f : Formula) → Is s f → entries s ≡ size f
+abbrev pub EntriesAreCounted : Type 0
+EntriesAreCounted = (s : List ℕ) (f : Formula) → Is s f → entries s ≡ size f
 
 -- What the machine reads is the verdict, and the verdict is what it reads.
-abbrev pub Machine_is_exact : Type 0
-Machine_is_exact = (limit : ℕ) (s : List ℕ) (o : Out) → (Verdict limit s o → read limit s ≡ o) × (read limit s ≡ o → Verdict limit s o)
+abbrev pub MachineIsExact : Type 0
+MachineIsExact = (limit : ℕ) (s : List ℕ) (o : Out) → (Verdict limit s o → read limit s ≡ o) × (read limit s ≡ o → Verdict limit s o)
 
 -- Each text has a verdict, and one only.
-abbrev pub Verdict_is_one : Type 0
-Verdict_is_one = (limit : ℕ) (s : List ℕ) → (o : Out) × Verdict limit s o × ((x : Out) → Verdict limit s x → x ≡ o)
+abbrev pub VerdictIsOne : Type 0
+VerdictIsOne = (limit : ℕ) (s : List ℕ) → (o : Out) × Verdict limit s o × ((x : Out) → Verdict limit s x → x ≡ o)
 
 -- What is read is what the grammar derives, and what it derives is read where no limit is exceeded.
-abbrev pub Accepted_is_derived : Type 0
-Accepted_is_derived =
+abbrev pub AcceptedIsDerived : Type 0
+AcceptedIsDerived =
     (limit : ℕ) (s : List ℕ) (f : Formula)
     → (read limit s ≡ good f → Is s f) × (Is s f → size f ≤ limit → ((q : ℕ) → depth_of (take q s) ≤ 16) → read limit s ≡ good f)
 
@@ -35,13 +35,13 @@ abbrev pub MalformedAt : List ℕ → ℕ → Type 0
 MalformedAt s p = Viable (take p s) × (p ≤ length s) × (p < length s → ¬ Viable (take (suc p) s)) × (p ≡ length s → (f : Formula) → ¬ Is s f)
 
 -- A refusal by 31 says so of the text and the place.
-abbrev pub Malformed_is_first : Type 0
-Malformed_is_first = (limit : ℕ) (s : List ℕ) (p : ℕ) → read limit s ≡ bad 31 p → MalformedAt s p
+abbrev pub MalformedIsFirst : Type 0
+MalformedIsFirst = (limit : ℕ) (s : List ℕ) (p : ℕ) → read limit s ≡ bad 31 p → MalformedAt s p
 
 -- A formula that is written is read as itself.
-abbrev pub Written_is_read : Type 0
-Written_is_read = (f : Formula) → AllActions f → Is (formula_text f) f
+abbrev pub WrittenIsRead : Type 0
+WrittenIsRead = (f : Formula) → AllActions f → Is (formula_text f) f
 
 -- The text of an action is that action.
-abbrev pub Action_text_is_read : Type 0
-Action_text_is_read = (n : ℕ) → n ≤ 52 → Act (action_text n) n
+abbrev pub ActionTextIsRead : Type 0
+ActionTextIsRead = (n : ℕ) → n ≤ 52 → Act (action_text n) n

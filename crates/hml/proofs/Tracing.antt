@@ -3,7 +3,7 @@ use Rattle.std.proofs.Common.{◌≡◌, ℕ, zero, suc, ◌⊎◌, List, [], �
 use Rattle.lts.specs.Lts.{Lts, Way, Move}
 use Rattle.hml.specs.Traces.{Trace}
 use Rattle.hml.specs.Traces.Trace.{stop, step}
-use Rattle.hml.specs.Examples.{coffee_and_tea, Traces_do_not_decide}
+use Rattle.hml.specs.Examples.{coffee_and_tea, TracesDoNotDecide}
 use Rattle.hml.proofs.Deciding.{same_move, none_moves}
 use Rattle.hml.proofs.Working.{worked_hold}
 
@@ -55,5 +55,5 @@ to_first (a ∷ word) =
       by_moves coffee_and_tea 4 word (λ b. Can 1 (b ∷ word)) (λ x. step (1, refl) (h.0 x), tt) a,
     )
 
-pub traces_do_not_decide : Traces_do_not_decide
+pub traces_do_not_decide : TracesDoNotDecide
 traces_do_not_decide = (λ word. ((to_second word).0, (to_first word).0), worked_hold.0.1)

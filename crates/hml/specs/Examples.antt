@@ -80,9 +80,9 @@ worked =
     ∷ (chain, never (may 27 tru) 0)
     ∷ []
 
-abbrev pub Worked_facts_hold : Type 0
-Worked_facts_hold = Each worked
+abbrev pub WorkedFactsHold : Type 0
+WorkedFactsHold = Each worked
 
 -- Equal traces are not likeness: the two machines can do the same sequences of actions.
-abbrev pub Traces_do_not_decide : Type 0
-Traces_do_not_decide = TraceEqual coffee_and_tea 0 2 × ¬ Bisimilar coffee_and_tea 0 2
+abbrev pub TracesDoNotDecide : Type 0
+TracesDoNotDecide = TraceEqual coffee_and_tea 0 2 × ¬ Bisimilar coffee_and_tea 0 2

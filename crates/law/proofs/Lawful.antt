@@ -6,7 +6,7 @@ use Rattle.hml.specs.Theorems.{Closed}
 use Rattle.hml.specs.declared.step.Step.{Step}
 use Rattle.hml.proofs.Characterised.{hennessy_milner, lines_distinguish}
 use Rattle.formula.specs.Entries.{formula_at}
-use Rattle.law.specs.History.{Call, Phase, entries_held, AsDefined, History, Stands, Lawful, Every_history_is_lawful}
+use Rattle.law.specs.History.{Call, Phase, entries_held, AsDefined, History, Stands, Lawful, EveryHistoryIsLawful}
 use Rattle.law.specs.History.Call.{reach, alike, tell}
 use Rattle.law.specs.History.Phase.{Open, Settled}
 use Rattle.law.specs.History.History.{entered, settled, reopened, ruled, reached, compared, told}
@@ -61,5 +61,5 @@ module _ (m : Lts) where
           rw (ap (λ w. w.0) y.2, ap (λ w. w.0) z.2, same) (answers_agree (length p) (length q) (moves_of z.0));
     }
 
-pub every_history_is_lawful : Every_history_is_lawful
+pub every_history_is_lawful : EveryHistoryIsLawful
 every_history_is_lawful l r left right φ h history = lawful (joined l r) (joined_closed l r left right) φ h history

@@ -83,5 +83,5 @@ pub record Lawful (m : Lts) (h : List Call) : Type 0 where
   pub uniform : (s t f : ℕ) (p q p' q' : List Step) (r r' : Result (Option ℕ) ReachRefusal) (e₀ e₁ e₂ : List Call) → Stands h (alike s t (Ok true)) e₀ → Stands h (reach f s p p' r) e₁ → f < length (entries_held e₁) → Stands h (reach f t q q' r') e₂ → f < length (entries_held e₂) → ((r ≡ Ok None) ↔ (r' ≡ Ok None)) × ((n n' : ℕ) → r ≡ Ok (Some n) → r' ≡ Ok (Some n') → n ≡ n') × (length p ≡ length q → r ≡ r')
 
 -- Whatever two systems stand side by side, and whatever calls were taken since the opening.
-abbrev pub Every_history_is_lawful : Type 0
-Every_history_is_lawful = (l r : Lts) → Limits l → Limits r → (φ : Phase) (h : List Call) → History (joined l r) φ h → Lawful (joined l r) h
+abbrev pub EveryHistoryIsLawful : Type 0
+EveryHistoryIsLawful = (l r : Lts) → Limits l → Limits r → (φ : Phase) (h : List Call) → History (joined l r) φ h → Lawful (joined l r) h

@@ -12,7 +12,7 @@ use Rattle.law.specs.declared.refusals.AlikeRefusal.{AlikeRefusal}
 use Rattle.law.specs.declared.refusals.TellRefusal.{TellRefusal}
 
 -- Each call has one answer only, and leaves one memory only: nothing is free in the definitions of the answers.
-pub record Answers_are_one : Type 0 where
+pub record AnswersAreOne : Type 0 where
   pub entered : (es list : List Entry) (r q : Result ℕ EnterRefusal) → Entered es list r → Entered es list q → r ≡ q
   pub ruled : (m : Lts) (es : List Entry) (f s : ℕ) (r q : Result Bool RuleRefusal) → Ruled m es f s r → Ruled m es f s q → r ≡ q
   pub reached : (m : Lts) (es : List Entry) (f s : ℕ) (before x y : List Step) (r q : Result (Option ℕ) ReachRefusal) → Reached m es f s before x r → Reached m es f s before y q → (r ≡ q) × (x ≡ y)

@@ -6,7 +6,7 @@ use Rattle.sheet.specs.Parts.{Lacks, length_to, begins, one}
 use Rattle.sheet.specs.Cursors.{bytes, place, rest}
 use Rattle.sheet.specs.Lines.{onto}
 use Rattle.sheet.specs.declared.cursor.Cursor.{Cursor}
-use Rattle.rows.specs.Fields.{Fields, fields_of, Fields_are_found}
+use Rattle.rows.specs.Fields.{Fields, fields_of, FieldsAreFound}
 use Rattle.rows.specs.Fields as fields
 use Rattle.rows.specs.Held.{held}
 use Rattle.rows.specs.declared.fields.Fields.{Fields as FieldArray}
@@ -39,7 +39,7 @@ only : {l : List ℕ} {fs : List (List ℕ)} → Fields l fs → fs ≡ fields_o
 only (fields.one {f} lacks) = sym (one_field f lacks)
 only (fields.more {f} {l} lacks rest) = ap (λ fs. f ∷ fs) (only rest) ∙ sym (first_field f l lacks)
 
-pub fields_are_found : Fields_are_found
+pub fields_are_found : FieldsAreFound
 fields_are_found l = (found l, λ fs h. only h)
 
 -- The fields behind the first one, from its end on.

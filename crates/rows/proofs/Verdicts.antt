@@ -8,7 +8,7 @@ use Rattle.sheet.proofs.Splitting.{lines_are_found}
 use Rattle.rows.specs.Fields.{Fields, fields_of}
 use Rattle.rows.specs.Format.{Transition, Once, IsHeader, IsState, IsRow, skipped, Rows, Table}
 use Rattle.rows.specs.Format as format
-use Rattle.rows.specs.Verdict.{AllSkipped, LineAt, RowAt, Outcome, accepted, refused, Verdict, One_verdict}
+use Rattle.rows.specs.Verdict.{AllSkipped, LineAt, RowAt, Outcome, accepted, refused, Verdict, OneVerdict}
 use Rattle.rows.specs.declared.columns.Columns.{Columns}
 use Rattle.rows.specs.declared.refusal.Refusal.{Refusal}
 use Rattle.rows.specs.declared.refusal.Refusal.TheVariants.{NoHeader, BadHeader, Width, BadField, TooMany}
@@ -174,7 +174,7 @@ module _ (s : List ℕ) where
   verdict_leads (refused (BadField n)) (c, ts, fs, at, width, no_row) = (_, row_leads (BadField n) at (inr (width, inl (no_row, refl))), refl)
   verdict_leads (refused (TooMany n)) (c, ts, fs, at, (t, row), full) = (_, row_leads (TooMany n) at (inr (row.width, inr (t, row, inl (full, refl)))), refl)
 
-pub one_verdict : One_verdict
+pub one_verdict : OneVerdict
 one_verdict s o p v w =
     let a = verdict_leads s o v in
     let b = verdict_leads s p w in

@@ -14,5 +14,5 @@ fields_of [] = [] ∷ []
 fields_of (b ∷ bs) = cond (b == 44) ([] ∷ fields_of bs) (onto b (fields_of bs))
 
 -- Every line has fields, and only these.
-abbrev pub Fields_are_found : Type 0
-Fields_are_found = (l : List ℕ) → Fields l (fields_of l) × ((fs : List (List ℕ)) → Fields l fs → fs ≡ fields_of l)
+abbrev pub FieldsAreFound : Type 0
+FieldsAreFound = (l : List ℕ) → Fields l (fields_of l) × ((fs : List (List ℕ)) → Fields l fs → fs ≡ fields_of l)

@@ -53,5 +53,5 @@ Verdict s (accepted ts) = Accepted s ts
 Verdict s (refused e) = Refused s e
 
 -- A sheet has one verdict only: a table is never refused, and of several broken rules only the first is answered.
-abbrev pub One_verdict : Type 0
-One_verdict = (s : List ℕ) (o p : Outcome) → Verdict s o → Verdict s p → o ≡ p
+abbrev pub OneVerdict : Type 0
+OneVerdict = (s : List ℕ) (o p : Outcome) → Verdict s o → Verdict s p → o ≡ p

@@ -3,7 +3,7 @@ ghost use Rattle.std.specs.Prelude.{◌≡◌, ℕ, ◌≤◌, true, false, List
 ghost use Rattle.rows.specs.Answers.{transitions, Answered};
 ghost use Rattle.rows.specs.Held.{held, transition_of, RowHeld};
 ghost use Rattle.rows.specs.Reading.{RowRead, Gone, Begun, HeaderRead, RowsRead};
-ghost use Rattle.rows.specs.Verdict.{AllSkipped, One_verdict};
+ghost use Rattle.rows.specs.Verdict.{AllSkipped, OneVerdict};
 
 use crate::columns::Columns;
 use crate::fields::Fields;
@@ -98,7 +98,7 @@ fn read_sheet(sheet: &[u8], rows: &mut Rows) -> Result<(), Refusal>
 
 // Each sheet is a table of one list of rows, or is refused in one way.
 pub fn verdicts_are_one()
-    ensures { One_verdict }
+    ensures { OneVerdict }
 {}
 
 impl Rows {

@@ -3,7 +3,7 @@ use Rattle.std.proofs.Common.{◌≡◌, ℕ, suc, ◌+◌, ◌<◌, ◌≤◌, 
 use Rattle.std.proofs.lemmas.List.{drop-drop, drop_more}
 use Rattle.std.proofs.lemmas.Bool.{eq-eqb, ne_eqb, cond-true, cond-false, cases_eq}
 use Rattle.sheet.specs.Parts.{Lacks, length_to, begins, one}
-use Rattle.sheet.specs.Lines.{Lines, none, last, more, onto, lines_of, Lines_are_found, blanks}
+use Rattle.sheet.specs.Lines.{Lines, none, last, more, onto, lines_of, LinesAreFound, blanks}
 
 -- One byte more before the first line.
 grow : {b : ℕ} {s : List ℕ} {ls : List (List ℕ)} → (b ≡ 10 → ⊥) → Lines s ls → Lines (b ∷ s) (onto b ls)
@@ -39,7 +39,7 @@ only none = refl
 only (last {l} lacks some) = sym (last_line l lacks some)
 only (more {l} {s} lacks rest) = ap (λ ls. l ∷ ls) (only rest) ∙ sym (first_line l s lacks)
 
-pub lines_are_found : Lines_are_found
+pub lines_are_found : LinesAreFound
 lines_are_found s = (found s, λ ls h. only h)
 
 -- What is left of a text behind its first line.

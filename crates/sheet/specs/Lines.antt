@@ -19,8 +19,8 @@ lines_of [] = []
 lines_of (b ∷ bs) = cond (b == 10) ([] ∷ lines_of bs) (onto b (lines_of bs))
 
 -- Every text has lines, and only these.
-abbrev pub Lines_are_found : Type 0
-Lines_are_found = (s : List ℕ) → Lines s (lines_of s) × ((ls : List (List ℕ)) → Lines s ls → ls ≡ lines_of s)
+abbrev pub LinesAreFound : Type 0
+LinesAreFound = (s : List ℕ) → Lines s (lines_of s) × ((ls : List (List ℕ)) → Lines s ls → ls ≡ lines_of s)
 
 -- A remark begins with a semicolon.
 abbrev pub is_remark : List ℕ → Bool

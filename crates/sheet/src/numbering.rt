@@ -1,7 +1,7 @@
 // How the lines of a sheet are read.
 ghost use Rattle.std.specs.Prelude.{◌≡◌, ◌+◌, ◌<◌, false, not, ◌||◌, ◌∷◌, length};
 ghost use Rattle.sheet.specs.Cursors.{bytes, place, rest};
-ghost use Rattle.sheet.specs.Lines.{lines_of, is_remark, Lines_are_found};
+ghost use Rattle.sheet.specs.Lines.{lines_of, is_remark, LinesAreFound};
 ghost use Rattle.sheet.specs.Reading.{unread, Holds, NextLine};
 
 use crate::cursor::Cursor;
@@ -12,7 +12,7 @@ const LINE_END: u8 = b'\n';
 
 // Every text is one list of lines.
 pub fn lines_are_found()
-    ensures { Lines_are_found }
+    ensures { LinesAreFound }
 {}
 
 // Reads a line, and passes its end.
