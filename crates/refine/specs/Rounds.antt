@@ -1,5 +1,5 @@
 -- What a round of refinement has found. Assumes nothing.
-use Rattle.std.specs.Prelude.{◌≡◌, ℕ, suc, ◌+◌, ◌*◌, ◌<◌, ◌≤◌, Bool, true, false, cond, List, slice_index, slice_index_or}
+use Rattle.std.specs.Prelude.{◌≡◌, ℕ, suc, ◌+◌, ◌*◌, ◌<◌, ◌≤◌, Bool, true, false, cond, List, slice_index}
 use Rattle.lts.specs.Lts.{Lts}
 use Rattle.refine.specs.Classes.{Names, Classed}
 use Rattle.refine.specs.Signatures.{Weighs, Marked}
@@ -31,10 +31,10 @@ pub record New (s c u : ℕ) (answer : Bool) : Type 0 where
 
 -- The name u and the weight of s are entered, and s is listed where it is new.
 pub record Entered (w : Round) (s u weight : ℕ) (new : Bool) (w' : Round) : Type 0 where
-  pub name : slice_index_or w'.next s 0 ≡ u
+  pub name : slice_index w'.next s ≡ u
   pub names : (t : ℕ) → t < s → slice_index w'.next t ≡ slice_index w.next t
-  pub weighs : slice_index_or w'.weights s 0 ≡ weight
+  pub weighs : slice_index w'.weights s ≡ weight
   pub weights : (t : ℕ) → t < s → slice_index w'.weights t ≡ slice_index w.weights t
-  pub last : slice_index_or w'.fresh w.count 0 ≡ s
+  pub last : slice_index w'.fresh w.count ≡ s
   pub listed : (j : ℕ) → j < w.count → slice_index w'.fresh j ≡ slice_index w.fresh j
   pub count : w'.count ≡ w.count + cond new 1 0

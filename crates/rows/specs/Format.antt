@@ -1,5 +1,5 @@
 -- The format of transition tables: what a well-formed sheet is, and the rows that it holds. Assumes nothing.
-use Rattle.std.specs.Prelude.{◌≡◌, ℕ, ◌<◌, ◌≤◌, Bool, true, false, List, [], ◌∷◌, length, get_or, codes, decimal, slice_index_or}
+use Rattle.std.specs.Prelude.{◌≡◌, ℕ, ◌<◌, ◌≤◌, Bool, true, false, List, [], ◌∷◌, length, codes, decimal, slice_index_or}
 use Rattle.actions.specs.Text.{action_text}
 use Rattle.sheet.specs.Lines.{Lines, is_remark}
 use Rattle.rows.specs.Fields.{Fields}
@@ -14,7 +14,7 @@ pub record Transition : Type 0 where
 -- Field k has the name, and no other field has.
 pub record Once (fs : List (List ℕ)) (k : ℕ) (name : List ℕ) : Type 0 where
   pub there : k < length fs
-  pub named : get_or fs k [] ≡ name
+  pub named : slice_index_or fs k [] ≡ name
   pub alone : (j : ℕ) → j < length fs → slice_index_or fs j [] ≡ name → j ≡ k
 
 -- A header has at most 8 fields, and names each of from, act and to once.

@@ -1,5 +1,5 @@
 // Marks for the moves of a state, by action and by the name of the target's class.
-ghost use Rattle.std.specs.Prelude.{◌≡◌, ℕ, ◌<◌, Bool, false, get_or, if◌then◌else◌, slice_index, slice_index_or};
+ghost use Rattle.std.specs.Prelude.{◌≡◌, ℕ, ◌<◌, Bool, false, if◌then◌else◌, slice_index, slice_index_or};
 ghost use Rattle.std.specs.Option.{option_or};
 ghost use Rattle.telling.specs.Marking.{place_of, marked, fresh, first_fresh, first_unlike};
 
@@ -57,7 +57,7 @@ fn found_or(
     names: &[u16; 2048],
     on: &[bool; PLACES],
 ) -> Option<(u8, u16)>
-    ensures { result ≡ option_or found (fresh names.now (λ k. get_or on.now k false) way) }
+    ensures { result ≡ option_or found (fresh names.now (λ k. slice_index_or on.now k false) way) }
 {
     match found {
         Some(_) => found,
@@ -72,7 +72,7 @@ fn first_fresh<G: Graph>(
     names: &[u16; 2048],
     on: &[bool; PLACES],
 ) -> Option<(u8, u16)>
-    ensures { result ≡ first_fresh names.now (λ k. get_or on.now k false) ((G.Graph.means graph.now).ways state) }
+    ensures { result ≡ first_fresh names.now (λ k. slice_index_or on.now k false) ((G.Graph.means graph.now).ways state) }
 {
     let mut found = None;
     for k in 0..graph.ways(state) {
