@@ -40,15 +40,6 @@ module _ (l r : Lts) where
   pub way_right : (s k : ℕ) → l.states ≤ s → way_at (joined l r) s k ≡ shifted l.states (way_at r (s - l.states) k)
   way_right s k h = ap (λ ws. slice_index_or ws k None) (ways_right s h) ∙ get_or-map (shifted N) (r.ways (s - N)) k None
 
-  -- The same, of what the right system answers where n is the left number of states.
-  pub counted_right : (n s c : ℕ) → n ≡ l.states → n ≤ s → c ≡ length (r.ways (s - n)) → c ≡ length ((joined l r).ways s)
-  counted_right n s c e = subst (λ n. n ≤ s → c ≡ length (r.ways (s - n)) → c ≡ length ((joined l r).ways s)) (sym e) (λ h w. w ∙ sym (count_right s h))
-
-  pub answered_right : (n s k : ℕ) (o : Way) → n ≡ l.states → n ≤ s → o ≡ way_at r (s - n) k → shifted n o ≡ way_at (joined l r) s k
-  answered_right n s k o e =
-      subst (λ n. n ≤ s → o ≡ way_at r (s - n) k → shifted n o ≡ way_at (joined l r) s k) (sym e)
-      (λ h w. ap (shifted N) w ∙ sym (way_right s k h))
-
   module _ (lim : Limits l) (rim : Limits r) where
     few : (s : ℕ) → length ((joined l r).ways s) ≤ 4095
     few s =

@@ -1,2 +1,3 @@
 pub mod Wide
 pub mod Joining
+pub mod Ways

@@ -33,9 +33,8 @@ impl<L: System, R: System> Graph for Pair<L, R> {
         if state < left {
             return self.left.way(state, k);
         }
-        match self.right.way(state - left, k) {
-            Some((action, target)) => Some((action, left + target)),
-            None => None,
-        }
+        self.right
+            .way(state - left, k)
+            .map(|(action, target)| (action, left + target))
     }
 }
