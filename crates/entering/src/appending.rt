@@ -1,5 +1,5 @@
 // How a list is entered.
-ghost use Rattle.std.specs.Prelude.{◌≡◌, ◌+◌, ◌≤◌, length};
+ghost use Rattle.std.specs.Prelude.{◌≡◌, ◌+◌, ◌-◌, ◌≤◌, length};
 ghost use Rattle.formula.specs.Entries.{Sound, AllSound, appended, raised};
 ghost use Rattle.law.specs.Answers.{Entered};
 ghost use Rattle.entering.specs.Held.{entries_in, HeldAfter};
@@ -9,12 +9,10 @@ use crate::soundness::first_unsound;
 use formula::entry::Entry;
 use law::refusals::EnterRefusal;
 
-const MOST: usize = 128;
-
 // The entry with each entry number in it raised by n.
-fn raise(n: u8, place: u8, entry: Entry) -> Entry
-    requires sound { Sound place entry }
-    requires room { n + place ≤ 128 }
+fn raise(n: u8, entry: Entry) -> Entry
+    requires few { n ≤ 128 }
+    requires sound { Sound (128 - n) entry }
     ensures { result ≡ raised n entry }
 {
     match entry {
@@ -31,13 +29,12 @@ impl Held {
     // Appends a list that is sound and for which there is room.
     fn append(&mut self, list: &[Entry])
         requires sound { AllSound list.now }
-        requires room { self.old.count + length list.now ≤ 128 }
+        requires room { length (entries_in self.old) + length list.now ≤ 128 }
         ensures { entries_in self.new ≡ appended (entries_in self.old) list.now }
     {
-        let before = self.count;
-        for (i, entry) in list.iter().enumerate() {
-            self.entries[usize::from(self.count)] = raise(before, i as u8, *entry);
-            self.count += 1;
+        let before = self.len();
+        for entry in list {
+            self.entries.push(raise(before, *entry));
         }
     }
 
@@ -52,10 +49,10 @@ impl Held {
         if let Some(place) = first_unsound(list) {
             return Err(EnterRefusal::Unsound(place));
         }
-        if list.len() > MOST - usize::from(self.count) {
+        if list.len() > self.entries.remaining_capacity() {
             return Err(EnterRefusal::Full);
         }
         self.append(list);
-        Ok(self.count - 1)
+        Ok(self.len() - 1)
     }
 }

@@ -1,13 +1,13 @@
 // The entries that a bench holds.
-ghost use Rattle.std.specs.Prelude.{◌≡◌, ◌≤◌, length};
+ghost use Rattle.std.specs.Prelude.{◌≤◌};
+ghost use Rattle.arrayvec.specs.ArrayVec.{array_vec_len};
 
+use arrayvec::ArrayVec;
 use formula::entry::Entry;
 
-// At most 128 entries; those from `count` on are not held.
-#[derive(Clone, Copy)]
+// At most 128 entries, in order.
+#[derive(Clone, Drop)]
 pub struct Held {
-    pub(crate) entries: [Entry; 128],
-    pub(crate) count: u8,
-    ghost few: { count ≤ 128 },
-    ghost room: { length entries ≡ 128 },
+    pub(crate) entries: ArrayVec<Entry, 128>,
+    ghost few: { array_vec_len entries ≤ 128 },
 }

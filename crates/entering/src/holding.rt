@@ -3,6 +3,7 @@ ghost use Rattle.std.specs.Prelude.{◌≡◌, ◌≤◌, [], length};
 ghost use Rattle.entering.specs.Held.{entries_in};
 
 use crate::held::Held;
+use arrayvec::ArrayVec;
 use formula::entry::Entry;
 
 impl Held {
@@ -11,8 +12,7 @@ impl Held {
         ensures { entries_in result ≡ [] }
     {
         Held {
-            entries: [Entry::True; 128],
-            count: 0,
+            entries: ArrayVec::new(),
         }
     }
 
@@ -20,13 +20,13 @@ impl Held {
     pub fn as_slice(&self) -> &[Entry]
         ensures { result.now ≡ entries_in self.now }
     {
-        &self.entries[0..usize::from(self.count)]
+        self.entries.as_slice()
     }
 
     pub fn len(&self) -> u8
         ensures value { result ≡ length (entries_in self.now) }
         ensures bound { result ≤ 128 }
     {
-        self.count
+        self.entries.len() as u8
     }
 }

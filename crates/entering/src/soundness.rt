@@ -1,8 +1,7 @@
 // Which lists of entries are sound.
-ghost use Rattle.std.specs.Prelude.{◌≡◌, ◌<◌, length, MatchOption, slice_index_or};
+ghost use Rattle.std.specs.Prelude.{◌≡◌, ◌<◌, length, MatchBool, MatchOption, slice_index_or};
 ghost use Rattle.formula.specs.Entries.{Sound, SoundBelow, AllSound};
 ghost use Rattle.formula.specs.declared.entry.Entry.TheVariants.{True};
-ghost use Rattle.entering.specs.Tests.{sound};
 
 use formula::entry::Entry;
 
@@ -10,7 +9,7 @@ const ACTIONS: u8 = 52;
 
 // Whether an entry names only earlier ones than place n, and an action up to 52.
 fn is_sound(n: usize, entry: Entry) -> bool
-    ensures { result ≡ sound n entry }
+    ensures { MatchBool result (Sound n entry) (¬ Sound n entry) }
 {
     match entry {
         Entry::True | Entry::False => true,
@@ -21,7 +20,7 @@ fn is_sound(n: usize, entry: Entry) -> bool
 
 // The place of the first entry that is not sound.
 pub(crate) fn first_unsound(list: &[Entry]) -> Option<usize>
-    ensures { MatchOption result (AllSound list.now) (λ i. (i < length list.now) × SoundBelow i list.now × (Sound i (slice_index_or list.now i True) → ⊥)) }
+    ensures { MatchOption result (AllSound list.now) (λ i. (i < length list.now) × SoundBelow i list.now × ¬ Sound i (slice_index_or list.now i True)) }
 {
     for (i, entry) in list.iter().enumerate() {
         if !is_sound(i, *entry) {

@@ -1,9 +1,10 @@
 // One entry of a formula list.
 
 // A formula whose parts are earlier entries of the same list, by their numbers from 0. May and must name an action, by
-// its number, and one entry.
-#[derive(Clone, Copy, PartialEq, Eq, Debug)]
+// its number, and one entry. A place of a list that is not used holds true.
+#[derive(Clone, Copy, PartialEq, Eq, Debug, Default)]
 pub enum Entry {
+    #[default]
     True,
     False,
     And(u8, u8),
