@@ -6,7 +6,7 @@ use arrayvec::ArrayVec;
 use formula::entry::Entry;
 
 // At most 128 entries, in order.
-#[derive(Clone, Drop)]
+#[derive(Drop)]
 pub struct Held {
     pub(crate) entries: ArrayVec<Entry, 128>,
     ghost few: { array_vec_len entries ≤ 128 },
