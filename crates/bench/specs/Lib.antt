@@ -1,1 +1,3 @@
+pub mod Bench
 pub mod Keeping
+pub mod Ready

@@ -1,9 +1,10 @@
 // The calls of an open bench.
 ghost use Rattle.std.specs.Prelude.{◌≡◌, []};
-ghost use Rattle.entering.specs.Held.{entries_in, HeldAfter};
+ghost use Rattle.entering.specs.Held.{HeldAfter};
 ghost use Rattle.law.specs.Answers.{Entered};
 ghost use Rattle.law.specs.History.Call.{enter as entering};
-ghost use Rattle.bench.specs.Keeping.{KeptOpen, OpenTakes, Settles};
+ghost use Rattle.law.specs.History.Phase.{Open};
+ghost use Rattle.bench.specs.Keeping.{Kept, OpenTakes, Settles};
 
 use crate::inner::Inner;
 use crate::open_bench::OpenBench;
@@ -19,8 +20,8 @@ use verdicts::judging::judge;
 impl<L: System, R: System> OpenBench<L, R> {
     // A bench over two systems, with no entries.
     pub fn open(left: L, right: R) -> OpenBench<L, R>
-        ensures systems { (result.pair.left ≡ left) × (result.pair.right ≡ right) }
-        ensures kept { KeptOpen L.System.means R.System.means result [] }
+        ensures systems { (result.left ≡ left) × (result.right ≡ right) }
+        ensures kept { Kept L.System.means R.System.means Open result [] }
     {
         OpenBench {
             pair: Pair { left, right },
@@ -31,9 +32,9 @@ impl<L: System, R: System> OpenBench<L, R> {
     // Enters a list of entries behind those held, each entry number in it raised by their count, and answers the number
     // of its last entry. After a refusal nothing has changed.
     pub fn enter(&mut self, list: &[Entry]) -> Result<u8, EnterRefusal>
-        ensures answer { Entered (entries_in self.old.held) list.now result }
-        ensures held { HeldAfter (entries_in self.old.held) list.now result (entries_in self.new.held) }
-        ensures systems { self.new.pair ≡ self.old.pair }
+        ensures answer { Entered self.old.entries list.now result }
+        ensures held { HeldAfter self.old.entries list.now result self.new.entries }
+        ensures systems { (self.new.left ≡ self.old.left) × (self.new.right ≡ self.old.right) }
         ensures lawful { OpenTakes L.System.means R.System.means self.old self.new (entering list.now result) }
     {
         self.held.enter(list)
@@ -41,7 +42,7 @@ impl<L: System, R: System> OpenBench<L, R> {
 
     // Ends the bench, and gives its systems back.
     pub fn close(self) -> (L, R)
-        ensures { (result.0 ≡ self.pair.left) × (result.1 ≡ self.pair.right) }
+        ensures { (result.0 ≡ self.left) × (result.1 ≡ self.right) }
     {
         let OpenBench { pair, held: _ } = self;
         let Pair { left, right } = pair;
@@ -50,8 +51,7 @@ impl<L: System, R: System> OpenBench<L, R> {
 
     // Judges every entry at every state, and finds the classes of bisimilar states.
     pub fn settle(self) -> SettledBench<L, R>
-        ensures systems { result.pair ≡ self.pair }
-        ensures held { entries_in result.held ≡ entries_in self.held }
+        ensures same { result ≡ self }
         ensures lawful { Settles L.System.means R.System.means self result }
     {
         let OpenBench { pair, held } = self;

@@ -1,13 +1,8 @@
--- The entries held. Assumes nothing.
+-- What entering a list leaves. Assumes nothing.
 use Rattle.std.specs.Prelude.{◌≡◌, ℕ, List, Ok, Err, Result}
 use Rattle.formula.specs.Entries.{appended}
 use Rattle.formula.specs.declared.entry.Entry.{Entry}
 use Rattle.law.specs.declared.refusals.EnterRefusal.{EnterRefusal}
-use Rattle.entering.specs.declared.held.Held.{Held}
-
--- The entries, in order.
-abbrev pub entries_in : Held → List Entry
-entries_in h = h.entries.items
 
 -- What is held after an answer to entering the list: it is appended, and after a refusal nothing has changed.
 abbrev pub HeldAfter : List Entry → List Entry → Result ℕ EnterRefusal → List Entry → Type 0

@@ -2,7 +2,7 @@
 ghost use Rattle.std.specs.Prelude.{◌≡◌, ◌+◌, ◌-◌, ◌≤◌, length};
 ghost use Rattle.formula.specs.Entries.{Sound, AllSound, appended, raised};
 ghost use Rattle.law.specs.Answers.{Entered};
-ghost use Rattle.entering.specs.Held.{entries_in, HeldAfter};
+ghost use Rattle.entering.specs.Held.{HeldAfter};
 
 use crate::held::Held;
 use crate::soundness::first_unsound;
@@ -29,8 +29,8 @@ impl Held {
     // Appends a list that is sound and for which there is room.
     fn append(&mut self, list: &[Entry])
         requires sound { AllSound list.now }
-        requires room { length (entries_in self.old) + length list.now ≤ 128 }
-        ensures { entries_in self.new ≡ appended (entries_in self.old) list.now }
+        requires room { length self.old + length list.now ≤ 128 }
+        ensures { self.new ≡ appended self.old list.now }
     {
         let before = self.len();
         for entry in list {
@@ -40,8 +40,8 @@ impl Held {
 
     // Enters a list behind the entries held, and answers the number of its last entry; or refuses, and nothing changes.
     pub fn enter(&mut self, list: &[Entry]) -> Result<u8, EnterRefusal>
-        ensures answer { Entered (entries_in self.old) list.now result }
-        ensures after { HeldAfter (entries_in self.old) list.now result (entries_in self.new) }
+        ensures answer { Entered self.old list.now result }
+        ensures after { HeldAfter self.old list.now result self.new }
     {
         if list.is_empty() {
             return Err(EnterRefusal::Empty);

@@ -1,6 +1,6 @@
 // What is held, as a list.
 ghost use Rattle.std.specs.Prelude.{◌≡◌, ◌≤◌, [], length};
-ghost use Rattle.entering.specs.Held.{entries_in};
+ghost use Rattle.formula.specs.Entries.{AllSound};
 
 use crate::held::Held;
 use arrayvec::ArrayVec;
@@ -9,7 +9,7 @@ use formula::entry::Entry;
 impl Held {
     // No entries.
     pub fn new() -> Held
-        ensures { entries_in result ≡ [] }
+        ensures { result ≡ [] }
     {
         Held {
             entries: ArrayVec::new(),
@@ -18,13 +18,15 @@ impl Held {
 
     // The entries, in order.
     pub fn as_slice(&self) -> &[Entry]
-        ensures { result.now ≡ entries_in self.now }
+        ensures value { result.now ≡ self.now }
+        ensures few { length result.now ≤ 128 }
+        ensures sound { AllSound result.now }
     {
         self.entries.as_slice()
     }
 
     pub fn len(&self) -> u8
-        ensures value { result ≡ length (entries_in self.now) }
+        ensures value { result ≡ length self.now }
         ensures bound { result ≤ 128 }
     {
         self.entries.len() as u8
