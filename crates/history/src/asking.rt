@@ -1,14 +1,14 @@
 // Questions asked of a settled bench, with their answers written beside them.
-ghost use Rattle.std.specs.Prelude.{◌≡◌};
-ghost use Rattle.history.specs.Running.{Asks, AsksAll};
+ghost use Rattle.law.specs.History.Phase.{Settled};
+ghost use Rattle.history.specs.Noting.{Asked, InTurn};
+ghost use Rattle.history.specs.Running.{Took};
 
 use crate::calls::Question;
 use bench::settled_bench::SettledBench;
 use lts::System;
 
 fn ask<L: System, R: System>(bench: &mut SettledBench<L, R>, question: &mut Question)
-    ensures systems { bench.new.pair ≡ bench.old.pair }
-    ensures taken { Asks L.System.means R.System.means bench.old bench.new question.old question.new }
+    ensures { Took L.System.means R.System.means Settled bench.old Settled bench.new (Asked question.old question.new) }
 {
     match question {
         Question::Rule(call) => {
@@ -31,8 +31,7 @@ pub(crate) fn ask_all<L: System, R: System>(
     bench: &mut SettledBench<L, R>,
     questions: &mut [Question],
 )
-    ensures systems { bench.new.pair ≡ bench.old.pair }
-    ensures taken { AsksAll L.System.means R.System.means bench.old bench.new questions.old questions.new }
+    ensures { Took L.System.means R.System.means Settled bench.old Settled bench.new (InTurn Asked questions.old questions.new) }
 {
     for question in questions.iter_mut() {
         ask(bench, question);

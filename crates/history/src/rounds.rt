@@ -1,6 +1,7 @@
 // Rounds of calls: lists entered, the bench settled, and questions asked.
-ghost use Rattle.std.specs.Prelude.{◌≡◌};
-ghost use Rattle.history.specs.Running.{Goes, GoesBack, GoesBackAll};
+ghost use Rattle.law.specs.History.Phase.{Open, Settled};
+ghost use Rattle.history.specs.Noting.{Gone, Back, InTurn};
+ghost use Rattle.history.specs.Running.{Took};
 
 use crate::asking::ask_all;
 use crate::calls::Round;
@@ -11,13 +12,11 @@ use lts::System;
 
 // Runs a round on an open bench, which it leaves settled.
 pub(crate) fn run_round<L: System, R: System>(
-    bench: OpenBench<L, R>,
+    mut bench: OpenBench<L, R>,
     round: &mut Round,
 ) -> SettledBench<L, R>
-    ensures systems { result.pair ≡ bench.pair }
-    ensures taken { Goes L.System.means R.System.means bench result round.old round.new }
+    ensures { Took L.System.means R.System.means Open bench Settled result (Gone round.old round.new) }
 {
-    let mut bench = bench;
     enter_all(&mut bench, round.lists.as_mut_slice());
     let mut bench = bench.settle();
     ask_all(&mut bench, round.questions.as_mut_slice());
@@ -26,13 +25,11 @@ pub(crate) fn run_round<L: System, R: System>(
 
 // Runs rounds, and reopens the bench after each.
 pub(crate) fn run_rounds<L: System, R: System>(
-    bench: OpenBench<L, R>,
+    mut bench: OpenBench<L, R>,
     rounds: &mut [Round],
 ) -> OpenBench<L, R>
-    ensures systems { result.pair ≡ bench.pair }
-    ensures taken { GoesBackAll L.System.means R.System.means bench result rounds.old rounds.new }
+    ensures { Took L.System.means R.System.means Open bench Open result (InTurn Back rounds.old rounds.new) }
 {
-    let mut bench = bench;
     for round in rounds.iter_mut() {
         bench = run_round(bench, round).reopen();
     }

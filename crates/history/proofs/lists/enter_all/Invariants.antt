@@ -1,10 +1,7 @@
-use Rattle.std.proofs.Common.{◌≡◌}
-use Rattle.bench.specs.Keeping.{KeptOpen}
+use Rattle.law.specs.History.Phase.{Open}
 use Rattle.history.specs.Noting.{Entered}
 use Rattle.history.proofs.Turning.{Run}
 use Rattle.history.proofs.lists.enter_all.Given as goal
 
 abbrev pub invariant-loop-call : goal.invariant-loop-call
-invariant-loop-call g l =
-    (l.bench.pair ≡ l.initial.bench.pair)
-    × Run Entered (KeptOpen g.L.System.means g.R.System.means l.initial.bench) (KeptOpen g.L.System.means g.R.System.means l.bench) l.initial.calls l.calls l.call-index
+invariant-loop-call g l = Run g.L.System.means g.R.System.means Entered Open l.initial.bench l.bench l.initial.calls l.calls l.call-index
