@@ -2,6 +2,8 @@
 
 // A formula whose parts are earlier entries of the same list, by their numbers from 0. May and must name an action, by
 // its number, and one entry. A place of a list that is not used holds true.
+//
+// Numbers, since lists are handed in and may be unsound: an action over 52 is refused when the list is entered.
 #[derive(Clone, Copy, PartialEq, Eq, Debug, Default)]
 pub enum Entry {
     #[default]

@@ -1,4 +1,6 @@
 // Why a call of the bench refuses: one type for each call, each case with its number and its place.
+//
+// Both are read by methods: `From` would not say which of the two is meant, and a trait over the types would be as long.
 ghost use Rattle.std.specs.Prelude.{◌≡◌};
 ghost use Rattle.law.specs.Refusals.{number_of_enter, place_of_enter, number_of_rule, number_of_reach, number_of_alike, number_of_tell};
 

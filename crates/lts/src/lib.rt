@@ -27,6 +27,7 @@ pub trait System {
         ensures { result ≡ length ((means self.now).ways state) };
 
     // Way k of a state: the action and the target of a move, or none where it is shut, or the state or k is too large.
+    // The action is a number: an option of two numbers is the form set for a way, in every layer that passes it on.
     fn way(&self, state: u16, k: u16) -> Option<(u8, u16)>
         ensures { result ≡ way_at (means self.now) state k };
 
