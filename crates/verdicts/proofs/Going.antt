@@ -1,46 +1,45 @@
--- Whether some way goes by an action: way by way, and as a fact about moves.
-use Rattle.std.proofs.Common.{◌≡◌, ℕ, zero, suc, ◌+◌, ◌<◌, ◌≤◌, Bool, true, false, ◌||◌, eqb, ◌⊎◌, List, [], ◌∷◌, length, get_or, drop, Some, None, sym, refl, ap, ◌∙◌, inl, inr}
-use Rattle.std.proofs.lemmas.List.{at_drop_more, at_drop_all}
-use Rattle.std.proofs.lemmas.Bool.{false≢true, and_parts, and_from, or_cases, or_left, or_right, eqb-true, eq-eqb}
+-- Whether ways go by an action to a property, as facts about moves.
+use Rattle.std.proofs.Common.{◌≡◌, ℕ, zero, suc, Bool, true, not, ◌||◌, eqb, List, [], ◌∷◌, get_or, Some, None, sym, refl, ap, ◌∙◌, ⊎_elim}
+use Rattle.std.specs.List.{list_any, list_all}
+use Rattle.std.proofs.lemmas.Bool.{false≢true, and_parts, and_from, or_left, or_right, eqb-true, eq-eqb, cases_Bool}
+use Rattle.std.proofs.lemmas.List.{get_or_default}
+use Rattle.std.proofs.lemmas.List.Folds.{Any-from_list_any}
 use Rattle.lts.specs.Lts.{Way}
 use Rattle.hml.proofs.Deciding.{none_moves}
-use Rattle.verdicts.specs.Values.{goes, some_goes}
+use Rattle.verdicts.specs.Values.{goes, stays}
 
 module _ (a : ℕ) (P : ℕ → Bool) where
-  -- The ways from place k on, where w is the way there and b says whether it goes.
-  module _ (ws : List Way) (k : ℕ) (w : Way) (b : Bool) (lt : k < length ws) (at : w ≡ get_or ws k None) (is : b ≡ goes a P w) where
-    split : some_goes a P (drop k ws) ≡ (b || some_goes a P (drop (k + 1) ws))
-    split = at_drop_more (some_goes a P) ws k None lt ∙ ap (λ x. x || some_goes a P (drop (k + 1) ws)) (sym (is ∙ ap (goes a P) at))
-
-    pub goes_here : b ≡ true → some_goes a P (drop k ws) ≡ true
-    goes_here e = split ∙ ap (λ x. x || some_goes a P (drop (k + 1) ws)) e
-
-    pub goes_later : b ≡ false → some_goes a P (drop k ws) ≡ some_goes a P (drop (k + 1) ws)
-    goes_later e = split ∙ ap (λ x. x || some_goes a P (drop (k + 1) ws)) e
-
-  pub goes_never : (ws : List Way) (k : ℕ) → length ws ≤ k → some_goes a P (drop k ws) ≡ false
-  goes_never ws k h = at_drop_all (some_goes a P) ws k h
-
   goes_move : (w : Way) → goes a P w ≡ true → (t : ℕ) × (w ≡ Some (a, t)) × (P t ≡ true)
   goes_move None e = absurd (false≢true e)
   goes_move (Some p) e =
       let x = and_parts (eqb p.0 a) (P p.1) e in
       (p.1, ap (λ b. Some (b, p.1)) (eqb-true p.0 a x.0), x.1)
 
-  -- What it is that some way of the list goes.
-  abbrev pub Going : List Way → Type 0
-  Going ws = (t : ℕ) × (k : ℕ) × (get_or ws k None ≡ Some (a, t)) × (P t ≡ true)
+  -- Some way of the list goes exactly where one is a move by the action to a state with P.
+  pub some_going : (ws : List Way) → list_any (goes a P) ws ≡ true → (t : ℕ) × (k : ℕ) × (get_or ws k None ≡ Some (a, t)) × (P t ≡ true)
+  some_going ws e =
+      let x = Any-from_list_any (goes a P) ws e in
+      let y = goes_move x.1 x.4 in
+      (y.0, x.0, get_or_default ws x.0 None x.1 x.2 ∙ x.3 ∙ y.1, y.2)
 
-  pub some_going : (ws : List Way) → some_goes a P ws ≡ true → Going ws
-  some_going [] e = absurd (false≢true e)
-  some_going (w ∷ ws) e = go (some_going ws) (or_cases (goes a P w) (some_goes a P ws) e)
-    where
-      go : (some_goes a P ws ≡ true → Going ws) → (goes a P w ≡ true) ⊎ (some_goes a P ws ≡ true) → Going (w ∷ ws)
-      go later (inl x) = let y = goes_move w x in (y.0, 0, y.1, y.2)
-      go later (inr x) = let y = later x in (y.0, suc y.1, y.2, y.3)
-
-  pub going_some : (ws : List Way) (k t : ℕ) → get_or ws k None ≡ Some (a, t) → P t ≡ true → some_goes a P ws ≡ true
+  pub going_some : (ws : List Way) (k t : ℕ) → get_or ws k None ≡ Some (a, t) → P t ≡ true → list_any (goes a P) ws ≡ true
   going_some [] k t e p = absurd (none_moves a t e)
-  going_some (w ∷ ws) zero t e p =
-      or_left (goes a P w) (some_goes a P ws) (ap (goes a P) e ∙ and_from (eqb a a) (P t) (eq-eqb a a refl) p)
-  going_some (w ∷ ws) (suc k) t e p = or_right (goes a P w) (some_goes a P ws) (going_some ws k t e p)
+  going_some (w ∷ ws) zero t e p = or_left _ _ (ap (goes a P) e ∙ and_from (eqb a a) (P t) (eq-eqb a a refl) p)
+  going_some (w ∷ ws) (suc k) t e p = or_right (goes a P w) _ (going_some ws k t e p)
+
+  -- Every way of the list stays exactly where each that is a move by the action leads to a state with P.
+  pub staying : (ws : List Way) → list_all (stays a P) ws ≡ true → (k t : ℕ) → get_or ws k None ≡ Some (a, t) → P t ≡ true
+  staying [] e k t is = absurd (none_moves a t is)
+  staying (w ∷ ws) e zero t is =
+      let here : stays a P (Some (a, t)) ≡ true = ap (stays a P) (sym is) ∙ (and_parts _ _ e).0 in
+      ap (λ b. not b || P t) (sym (eq-eqb a a refl)) ∙ here
+  staying (w ∷ ws) e (suc k) t is = staying ws (and_parts (stays a P w) _ e).1 k t is
+
+  stays_so : (w : Way) → ((t : ℕ) → w ≡ Some (a, t) → P t ≡ true) → stays a P w ≡ true
+  stays_so None h = refl
+  stays_so (Some p) h =
+      ⊎_elim (λ e. or_right (not (eqb p.0 a)) (P p.1) (h p.1 (ap (λ b. Some (b, p.1)) (eqb-true p.0 a e)))) (λ e. ap (λ b. not b || P p.1) e) (cases_Bool (eqb p.0 a))
+
+  pub all_staying : (ws : List Way) → ((k t : ℕ) → get_or ws k None ≡ Some (a, t) → P t ≡ true) → list_all (stays a P) ws ≡ true
+  all_staying [] h = refl
+  all_staying (w ∷ ws) h = and_from _ _ (stays_so w (λ t. h 0 t)) (all_staying ws (λ k t. h (suc k) t))

@@ -1,6 +1,6 @@
-mod BitLaws
 mod Going
 mod Naming
+mod Numbering
 pub mod Telling
 mod Valuing
 mod Writing

@@ -1,7 +1,6 @@
 -- What an entry says where its parts are decided decides its formula.
-use Rattle.std.proofs.Common.{◌≡◌, ℕ, ◌+◌, ◌<◌, Bool, true, false, not, ◌&&◌, ◌||◌, T, ◌⊎◌, ◌↔◌, List, [], length, get_or, sym, refl, ap, subst, ap₂, inl, inr, ⊎_elim, arith, T_not, below_more}
-use lib.Dec.{not_T}
-use Rattle.std.proofs.lemmas.Bool.{cases_Bool}
+use Rattle.std.proofs.Common.{◌≡◌, ℕ, ◌+◌, ◌<◌, Bool, true, false, ◌&&◌, ◌||◌, T, ◌⊎◌, ◌↔◌, List, [], length, get_or, sym, refl, subst, ap₂, inl, inr, ⊎_elim, arith, below_more}
+use Rattle.std.specs.List.{list_any, list_all}
 use Rattle.lts.specs.Lts.{Lts}
 use Rattle.pair.specs.Wide.{Wide}
 use Rattle.hml.specs.Logic.{Formula, Sat}
@@ -10,8 +9,8 @@ use Rattle.formula.specs.declared.entry.Entry.{Entry}
 use Rattle.formula.specs.declared.entry.Entry.TheVariants.{True, False, And, Or, May, Must}
 use Rattle.formula.specs.Entries.{formula_of, formulas, formula_at, Sound, AllSound}
 use Rattle.verdicts.specs.Words.{says, Decides}
-use Rattle.verdicts.specs.Values.{meets, some_goes, value_of, EntryJudged}
-use Rattle.verdicts.proofs.Going.{some_going, going_some}
+use Rattle.verdicts.specs.Values.{goes, stays, value_of, EntryJudged}
+use Rattle.verdicts.proofs.Going.{some_going, going_some, staying, all_staying}
 use Rattle.verdicts.proofs.Naming.{formula_made}
 use Rattle.verdicts.proofs.Telling.{true_holds, holds_true}
 
@@ -22,8 +21,8 @@ module _ (m : Lts) (P Q : ℕ → ℕ → Bool) (n : ℕ) (same : (i t : ℕ) �
   value_same False h s = refl
   value_same (And i j) h s = ap₂ (λ x y. x && y) (same i s h.0) (same j s h.1)
   value_same (Or i j) h s = ap₂ (λ x y. x || y) (same i s h.0) (same j s h.1)
-  value_same (May a i) h s = λ x. some_goes a (λ t. meets true (same i t h.1 x)) (m.ways s)
-  value_same (Must a i) h s = λ x. not (some_goes a (λ t. meets false (same i t h.1 x)) (m.ways s))
+  value_same (May a i) h s = λ x. list_any (goes a (λ t. same i t h.1 x)) (m.ways s)
+  value_same (Must a i) h s = λ x. list_all (stays a (λ t. same i t h.1 x)) (m.ways s)
 
 both_decide : {A B : Type 0} (x y : Bool) → T x ↔ A → T y ↔ B → T (x && y) ↔ (A × B)
 both_decide true y p q = (λ h. (p.0 tt, q.0 h), λ z. q.1 z.1)
@@ -40,30 +39,22 @@ module _ (m : Lts) (wide : Wide m) (P : ℕ → ℕ → Bool) (fs : List Formula
 
   may_holds : (a i s : ℕ) → i < n → T (value_of m P (May a i) s) → Sat m s (may a (at i))
   may_holds a i s l h =
-      let x = some_going a (λ t. meets true (P i t)) (m.ways s) (holds_true (value_of m P (May a i) s) h) in
+      let x = some_going a (P i) (m.ways s) (holds_true (value_of m P (May a i) s) h) in
       (x.0, (x.1, x.2), (decided i x.0 l (wide.target s x.1 a x.0 x.2)).0 (true_holds (P i x.0) x.3))
 
   may_told : (a i s : ℕ) → i < n → Sat m s (may a (at i)) → T (value_of m P (May a i) s)
   may_told a i s l x =
-      let k = x.1.0 in
-      let told = (decided i x.0 l (wide.target s k a x.0 x.1.1)).1 x.2 in
-      true_holds (value_of m P (May a i) s) (going_some a (λ t. meets true (P i t)) (m.ways s) k x.0 x.1.1 (holds_true (P i x.0) told))
+      let told = (decided i x.0 l (wide.target s x.1.0 a x.0 x.1.1)).1 x.2 in
+      true_holds (value_of m P (May a i) s) (going_some a (P i) (m.ways s) x.1.0 x.0 x.1.1 (holds_true (P i x.0) told))
 
   must_holds : (a i s : ℕ) → i < n → T (value_of m P (Must a i) s) → Sat m s (must a (at i))
-  must_holds a i s l h t x = go (cases_Bool (P i t))
-    where
-      go : (P i t ≡ true) ⊎ (P i t ≡ false) → Sat m t (at i)
-      go (inl e) = (decided i t l (wide.target s x.0 a t x.1)).0 (true_holds (P i t) e)
-      go (inr e) =
-          let some = going_some a (λ t. meets false (P i t)) (m.ways s) x.0 t x.1 (ap not e) in
-          absurd (T_not (some_goes a (λ t. meets false (P i t)) (m.ways s)) h (true_holds (some_goes a (λ t. meets false (P i t)) (m.ways s)) some))
+  must_holds a i s l h t x =
+      let e = staying a (P i) (m.ways s) (holds_true (value_of m P (Must a i) s) h) x.0 t x.1 in
+      (decided i t l (wide.target s x.0 a t x.1)).0 (true_holds (P i t) e)
 
   must_told : (a i s : ℕ) → i < n → Sat m s (must a (at i)) → T (value_of m P (Must a i) s)
   must_told a i s l every =
-      not_T (some_goes a (λ t. meets false (P i t)) (m.ways s)) (λ some.
-      let x = some_going a (λ t. meets false (P i t)) (m.ways s) (holds_true (some_goes a (λ t. meets false (P i t)) (m.ways s)) some) in
-      let told = (decided i x.0 l (wide.target s x.1 a x.0 x.2)).1 (every x.0 (x.1, x.2)) in
-      T_not (P i x.0) (true_holds (not (P i x.0)) x.3) told)
+      true_holds (value_of m P (Must a i) s) (all_staying a (P i) (m.ways s) (λ k t e. holds_true (P i t) ((decided i t l (wide.target s k a t e)).1 (every t (k, e)))))
 
   -- What a sound entry says is whether its formula holds.
   pub value_decides : (e : Entry) → Sound n e → (s : ℕ) → s < m.states → T (value_of m P e s) ↔ Sat m s (formula_of fs e)

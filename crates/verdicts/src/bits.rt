@@ -6,10 +6,7 @@ ghost use Rattle.verdicts.specs.Words.{bit};
 pub(crate) fn bit_of(word: u128, at: u8) -> bool
     ensures { result ≡ bit word at }
 {
-    if at >= 128 {
-        return false;
-    }
-    (word >> at) & 1 == 1
+    at < 128 && (word >> at) & 1 == 1
 }
 
 // The word with bit `at` set where `on`, and cleared where not.
@@ -19,9 +16,5 @@ pub(crate) fn with_bit(word: u128, at: u8, on: bool) -> u128
     ensures others { (i : ℕ) → (i ≢ at) → bit result i ≡ bit word i }
 {
     let flag = 1u128 << at;
-    if on {
-        word | flag
-    } else {
-        word ^ (word & flag)
-    }
+    if on { word | flag } else { word & !flag }
 }

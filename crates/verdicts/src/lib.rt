@@ -5,4 +5,4 @@
 
 mod bits;
 pub mod judging;
-pub mod reading;
+pub mod words;

@@ -1,7 +1,0 @@
-use Rattle.std.proofs.Common.{ℕ, ◌<◌}
-use Rattle.formula.specs.Entries.{AllSound, formula_at}
-use Rattle.verdicts.specs.Words.{Decides}
-use Rattle.verdicts.proofs.judging.judge.Given as goal
-
-abbrev pub invariant-loop-i : goal.invariant-loop-i
-invariant-loop-i g l = AllSound l.entries → (j : ℕ) → j < l.i → Decides (g.G.Graph.means l.graph) l.words j (formula_at l.entries j)
