@@ -5,7 +5,7 @@ use Rattle.hml.proofs.Agreement.{agree_refl, agree_sym}
 use Rattle.hml.proofs.Deciding.{by_order}
 use Rattle.hml.proofs.Resting.{bisimilar_agrees}
 use Rattle.pair.specs.Wide.{Wide}
-use Rattle.refine.specs.Classes.{Names, Refined}
+use Rattle.refine.specs.Classes.{Names, Refined, parting_at}
 use Rattle.refine.specs.Climbs.{IsName}
 use Rattle.refine.specs.declared.classes.Classes.{Classes}
 use Rattle.refine.proofs.Naming.{class_low, name_moves, names_deeper}
@@ -24,15 +24,15 @@ module _ (m : Lts) (wide : Wide m) (c : Classes) (refined : Refined m c) where
   is_name s l h = (l, omega (arith, class_low m refined.depth c.names refined.classed s l))
 
   -- From the depth at which a name parted, it names itself.
-  named_itself : (r u : ℕ) → 0 < u → IsName m c u → get_or c.depths u 0 ≤ r → Names m r u u
+  named_itself : (r u : ℕ) → 0 < u → IsName m c u → (parting_at c.partings u).depth ≤ r → Names m r u u
   named_itself r u z n h =
       let p = refined.parted u z n.0 n.1 in
       names_deeper m (suc p.0) r u (omega (arith, p.1)) p.3.apart
 
   -- Before that depth it has the name of its parent.
-  named_by_parent : (r u x : ℕ) → 0 < u → IsName m c u → r < get_or c.depths u 0 → Names m r (get_or c.parents u 0) x → Names m r u x
+  named_by_parent : (r u x : ℕ) → 0 < u → IsName m c u → r < (parting_at c.partings u).depth → Names m r (parting_at c.partings u).parent x → Names m r u x
   named_by_parent r u x z n h k =
-      let w = get_or c.parents u 0 in
+      let w = (parting_at c.partings u).parent in
       name_moves m r w u x k (agree_sym m r u w (branch_agrees m c refined u 0 r n z h))
 
   zero_names : (r : ℕ) → Names m r 0 0
@@ -42,8 +42,8 @@ module _ (m : Lts) (wide : Wide m) (c : Classes) (refined : Refined m c) where
   pub next_name :
       (r s v x : ℕ) (names : List ℕ)
       → (get_or c.names s 0 < s → v ≡ get_or c.names s 0)
-      → (s ≤ get_or c.names s 0 → get_or c.depths s 0 ≤ r → v ≡ s)
-      → (s ≤ get_or c.names s 0 → r < get_or c.depths s 0 → v ≡ get_or c.parents s 0)
+      → (s ≤ get_or c.names s 0 → (parting_at c.partings s).depth ≤ r → v ≡ s)
+      → (s ≤ get_or c.names s 0 → r < (parting_at c.partings s).depth → v ≡ (parting_at c.partings s).parent)
       → (v < s → x ≡ get_or names v 0)
       → (s ≤ v → x ≡ s)
       → ((k : ℕ) → k < s → k < m.states → Names m r k (get_or names k 0))
@@ -67,8 +67,8 @@ module _ (m : Lts) (wide : Wide m) (c : Classes) (refined : Refined m c) where
       above_zero : 0 < s → s ≤ get_or c.names s 0 → Names m r s x
       above_zero z k =
           let n = is_name s l k in
-          by_order r (get_or c.depths s 0)
-          (λ d. from_lower (get_or c.parents s 0) (parent k d) (branch_lower m c refined s 0 n z) (named_by_parent r s x z n d))
+          by_order r (parting_at c.partings s).depth
+          (λ d. from_lower (parting_at c.partings s).parent (parent k d) (branch_lower m c refined s 0 n z) (named_by_parent r s x z n d))
           (λ d. from_itself (omega (arith, itself k d)) (named_itself r s z n d))
 
       by_cases : Names m r s x

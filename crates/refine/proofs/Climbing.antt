@@ -1,11 +1,11 @@
 -- Climbing the tree of the separations from two names to a common one.
-use Rattle.std.proofs.Common.{◌≡◌, ℕ, ◌<◌, ◌≤◌, min, max, get_or, sym, refl, ap, ◌∙◌, subst, arith}
+use Rattle.std.proofs.Common.{◌≡◌, ℕ, ◌<◌, ◌≤◌, min, max, sym, refl, ap, ◌∙◌, subst, arith}
 use Rattle.lts.specs.Lts.{Lts}
 use Rattle.hml.specs.Bisimilarity.{Agree}
 use Rattle.hml.specs.Distinguishing.{FirstApart}
 use Rattle.hml.proofs.Agreement.{agree_refl, agree_sym, agree_trans, agree_below}
 use Rattle.hml.proofs.Deciding.{by_order}
-use Rattle.refine.specs.Classes.{Refined}
+use Rattle.refine.specs.Classes.{Refined, parting_at}
 use Rattle.refine.specs.Climbs.{IsName}
 use Rattle.refine.specs.declared.classes.Classes.{Classes}
 use Rattle.refine.proofs.Naming.{name_names, names_deeper, names_itself}
@@ -22,29 +22,29 @@ pub record Climbed (m : Lts) (c : Classes) (s t high low least : ℕ) : Type 0 w
 
 module _ (m : Lts) (c : Classes) (h : Refined m c) where
   -- A name that is not the lower of two has parted from the other at its depth or before.
-  pub branch_apart : (high low : ℕ) → IsName m c high → low < high → ¬ Agree m (get_or c.depths high 0) high low
+  pub branch_apart : (high low : ℕ) → IsName m c high → low < high → ¬ Agree m (parting_at c.partings high).depth high low
   branch_apart high low n l =
       let b = h.parted high (omega arith) n.0 n.1 in
       subst (λ d. ¬ Agree m d high low) (sym b.1) (b.3.apart.lowest low l)
 
-  pub branch_lower : (high low : ℕ) → IsName m c high → low < high → get_or c.parents high 0 < high
+  pub branch_lower : (high low : ℕ) → IsName m c high → low < high → (parting_at c.partings high).parent < high
   branch_lower high low n l = (h.parted high (omega arith) n.0 n.1).3.lower
 
   -- Its parent is a name, with which it agrees below its depth.
-  pub branch_name : (high low : ℕ) → IsName m c high → low < high → IsName m c (get_or c.parents high 0)
+  pub branch_name : (high low : ℕ) → IsName m c high → low < high → IsName m c (parting_at c.partings high).parent
   branch_name high low n l =
       let b = h.parted high (omega arith) n.0 n.1 in
-      let p = get_or c.parents high 0 in
+      let p = (parting_at c.partings high).parent in
       let lp : p < m.states = omega (arith, b.3.lower, n.0) in
       (lp, names_itself m h.depth c.names h.classed p lp (names_deeper m b.0 h.depth p (omega (arith, b.2)) (name_names m b.0 high p b.3.together)))
 
-  pub branch_agrees : (high low d : ℕ) → IsName m c high → low < high → d < get_or c.depths high 0 → Agree m d high (get_or c.parents high 0)
+  pub branch_agrees : (high low d : ℕ) → IsName m c high → low < high → d < (parting_at c.partings high).depth → Agree m d high (parting_at c.partings high).parent
   branch_agrees high low d n l ld =
       let b = h.parted high (omega arith) n.0 n.1 in
-      agree_below m d b.0 high (get_or c.parents high 0) (omega (arith, ld, b.1)) b.3.together.agrees
+      agree_below m d b.0 high (parting_at c.partings high).parent (omega (arith, ld, b.1)) b.3.together.agrees
 
   -- Two names, the higher one first or second.
-  first_higher : (s t : ℕ) → IsName m c s → IsName m c t → t < s → Climbed m c s t s t (get_or c.depths s 0)
+  first_higher : (s t : ℕ) → IsName m c s → IsName m c t → t < s → Climbed m c s t s t (parting_at c.partings s).depth
   first_higher s t ns nt l = record {
     order = omega arith;
     upper = ns;
@@ -54,12 +54,12 @@ module _ (m : Lts) (c : Classes) (h : Refined m c) where
     back = λ d ld x. x;
   }
 
-  second_higher : (s t : ℕ) → IsName m c s → IsName m c t → s < t → Climbed m c s t t s (get_or c.depths t 0)
+  second_higher : (s t : ℕ) → IsName m c s → IsName m c t → s < t → Climbed m c s t t s (parting_at c.partings t).depth
   second_higher s t ns nt l = record {
     order = omega arith;
     upper = nt;
     lower = ns;
-    apart = λ x. branch_apart t s nt l (agree_sym m (get_or c.depths t 0) s t x);
+    apart = λ x. branch_apart t s nt l (agree_sym m (parting_at c.partings t).depth s t x);
     forth = λ d ld x. agree_sym m d s t x;
     back = λ d ld x. agree_sym m d t s x;
   }
@@ -69,19 +69,19 @@ module _ (m : Lts) (c : Classes) (h : Refined m c) where
     moved high low least high' low' least' e f g x =
         subst (λ k. Climbed m c s t k low' least') e (subst (λ k. Climbed m c s t high k least') f (subst (Climbed m c s t high low) g x))
 
-    pub climbed_none : IsName m c s → IsName m c t → (s ≡ t → ⊥) → (high low least : ℕ) → high ≡ max s t → low ≡ min s t → least ≡ get_or c.depths high 0 → Climbed m c s t high low least
+    pub climbed_none : IsName m c s → IsName m c t → (s ≡ t → ⊥) → (high low least : ℕ) → high ≡ max s t → low ≡ min s t → least ≡ (parting_at c.partings high).depth → Climbed m c s t high low least
     climbed_none ns nt ne high low least e f g =
         by_order s t
-        (λ l. let q : t ≡ high = omega arith in moved t s (get_or c.depths t 0) high low least q (omega arith) (ap (λ k. get_or c.depths k 0) q ∙ sym g) (second_higher s t ns nt l))
-        (λ l. let q : s ≡ high = omega arith in moved s t (get_or c.depths s 0) high low least q (omega arith) (ap (λ k. get_or c.depths k 0) q ∙ sym g) (first_higher s t ns nt (omega (arith, ne))))
+        (λ l. let q : t ≡ high = omega arith in moved t s (parting_at c.partings t).depth high low least q (omega arith) (ap (λ k. (parting_at c.partings k).depth) q ∙ sym g) (second_higher s t ns nt l))
+        (λ l. let q : s ≡ high = omega arith in moved s t (parting_at c.partings s).depth high low least q (omega arith) (ap (λ k. (parting_at c.partings k).depth) q ∙ sym g) (first_higher s t ns nt (omega (arith, ne))))
 
     -- One step: the higher name is left for its parent.
     module _ (high low least : ℕ) (x : Climbed m c s t high low least) (l : low < high) where
       p : ℕ
-      p = get_or c.parents high 0
+      p = (parting_at c.partings high).parent
 
       depth : ℕ
-      depth = get_or c.depths high 0
+      depth = (parting_at c.partings high).depth
 
       step_forth : (d : ℕ) → d < least → d < depth → Agree m d s t → Agree m d p low
       unfolding p depth
@@ -98,7 +98,7 @@ module _ (m : Lts) (c : Classes) (h : Refined m c) where
           (λ k. let q : depth ≡ least' = omega arith in subst (λ d. ¬ Agree m d s t) q (λ y. branch_apart high low x.upper l (x.forth depth k y)))
           (λ k. let q : least ≡ least' = omega arith in subst (λ d. ¬ Agree m d s t) q x.apart)
 
-      pub climbed_more : (high' low' least' : ℕ) → high' ≡ max (get_or c.parents high 0) low → low' ≡ min (get_or c.parents high 0) low → least' ≡ min least (get_or c.depths high 0) → Climbed m c s t high' low' least'
+      pub climbed_more : (high' low' least' : ℕ) → high' ≡ max (parting_at c.partings high).parent low → low' ≡ min (parting_at c.partings high).parent low → least' ≡ min least (parting_at c.partings high).depth → Climbed m c s t high' low' least'
       unfolding p depth
       climbed_more high' low' least' e f g =
           by_order p low

@@ -1,7 +1,7 @@
 pub mod Weighing
 pub mod Naming
+pub mod Coding
 pub mod Signing
-pub mod Filling
 pub mod Placing
 pub mod Refining
 pub mod Parting

@@ -1,9 +1,11 @@
 -- Names of classes: a state has one name to each depth, states with one name agree, and a name stays one.
-use Rattle.std.proofs.Common.{◌≡◌, ℕ, ◌<◌, ◌≤◌, List, get_or, sym, subst, arith}
+use Rattle.std.proofs.Common.{◌≡◌, ℕ, zero, suc, ◌<◌, ◌≤◌, List, get_or, replicate, sym, refl, subst, arith}
+use Rattle.std.proofs.Math.Logic.{∥∥₁_elim}
+use mathlib.Core.HLevel.{⊥_prop}
 use Rattle.lts.specs.Lts.{Lts}
 use Rattle.hml.specs.Bisimilarity.{Agree}
-use Rattle.hml.proofs.Agreement.{agree_refl, agree_sym, agree_trans, agree_below}
-use Rattle.hml.proofs.Deciding.{by_order}
+use Rattle.hml.proofs.Agreement.{agree_refl, agree_sym, agree_trans, agree_below, agree?}
+use Rattle.hml.proofs.Deciding.{by_order, not_fails}
 use Rattle.refine.specs.Classes.{Names, Classed}
 
 module _ (m : Lts) (r : ℕ) where
@@ -64,3 +66,18 @@ names_deeper m d r u l h = record { agrees = agree_refl m r u; lowest = λ v k x
 -- To depth 0 the name of every state is 0.
 pub first_names : (m : Lts) (s : ℕ) → Names m 0 s 0
 first_names m s = record { agrees = tt; lowest = λ v l. absurd (omega arith) }
+
+pub zeros : (n i : ℕ) → ◌≡◌ {A = ℕ} (get_or (replicate n 0) i 0) 0
+zeros zero i = refl
+zeros (suc n) zero = refl
+zeros (suc n) (suc i) = zeros n i
+
+pub first_classed : (m : Lts) → Classed m 0 (replicate 2048 0)
+first_classed m s l = subst (Names m 0 s) (sym (zeros 2048 s)) (first_names m s)
+
+-- Agreement is decided, so what is only known to be a list of names is one.
+pub classed_of : (m : Lts) (r : ℕ) (names : List ℕ) → ∥ Classed m r names ∥₁ → Classed m r names
+classed_of m r names h s l = record {
+  agrees = not_fails (agree? m r s (get_or names s 0)) (λ n. ∥∥₁_elim h ⊥_prop (λ k. n (k s l).agrees));
+  lowest = λ v k x. ∥∥₁_elim h ⊥_prop (λ c. (c s l).lowest v k x);
+}

@@ -1,17 +1,23 @@
 -- States with the same signature are those that agree to one depth more, and the weights of signatures tell them apart.
-use Rattle.std.proofs.Common.{◌≡◌, ℕ, suc, ◌+◌, ◌*◌, ◌%◌, ◌<◌, ◌≤◌, Bool, true, false, ◌⊎◌, List, length, get_or, Some, None, sym, refl, ap, ◌∙◌, subst, inl, inr, arith}
+use Rattle.std.proofs.Common.{◌≡◌, ℕ, suc, ◌+◌, ◌*◌, ◌%◌, ◌<◌, ◌≤◌, Bool, true, false, cond, ◌||◌, eqb, ◌⊎◌, List, [], ◌∷◌, ◌++◌, get_or, min, sym, refl, ap, ap₂, ◌∙◌, subst, inl, inr, arith}
 use Rattle.std.proofs.lemmas.Nat.{mod_below}
-use Rattle.std.proofs.lemmas.List.{get_or_past}
-use Rattle.std.proofs.lemmas.Bool.{cases_Bool}
-use Rattle.lts.specs.Lts.{Lts, Way, way_at}
+use Rattle.std.specs.Bool.{Decides}
+use Rattle.std.specs.List.{list_all}
+use Rattle.std.proofs.Math.Bool.{or-false}
+use Rattle.std.proofs.lemmas.Bool.{cases_Bool, and_from, ne_eqb, eqb-true, eq-eqb, or_right}
+use Rattle.std.proofs.lemmas.List.Folds.{list_any-append}
+use Rattle.lts.specs.Lts.{Lts}
 use Rattle.hml.specs.Bisimilarity.{Agree, Matched}
 use Rattle.hml.proofs.Agreement.{agree_sym, matched_wider}
-use Rattle.hml.proofs.Deciding.{by_order}
 use Rattle.pair.specs.Wide.{Wide}
 use Rattle.refine.specs.Classes.{Classed}
-use Rattle.refine.specs.Signatures.{code_of, Coded, Below, Has, Alike, weighed, weight_of, Weighs}
+use Rattle.refine.specs.Codes.{code_of, coded, moves}
+use Rattle.refine.specs.Marks.{marked}
+use Rattle.refine.specs.Signatures.{signed, Alike, Marked, weighed, weight_of, Weighs, passes}
+use Rattle.refine.specs.declared.marks.Marks.{Marks}
+use Rattle.refine.proofs.Coding.{code_low, move_coded, coded_by, same_code, both, all_coded, coded_all}
 use Rattle.refine.proofs.Naming.{same_agree, agree_same, class_low}
-use Rattle.refine.proofs.Weighing.{weighed_same, weighed_less}
+use Rattle.refine.proofs.Weighing.{weighed_same, weighed_more, weighed_most, weighed_less}
 
 -- Weights are from 1 to 2 ^ 32.
 pub weight_some : (i : ℕ) → 0 < weight_of i
@@ -22,94 +28,102 @@ pub weight_most : (i : ℕ) → weight_of i ≤ 4294967296
 unfolding weight_of
 weight_most i = let x = (i * 2654435761 + 40503) % 4294967291 in omega (arith, mod_below (x * x) 4294967291 (omega arith))
 
--- Ways past the last are shut.
-pub has_shut : (m : Lts) (names : List ℕ) (s k : ℕ) → length (m.ways s) ≤ k → code_of names (way_at m s k) ≡ 108544
-has_shut m names s k l = ap (code_of names) (get_or_past (m.ways s) k None l)
+agreeing : (a b : Bool) → (a ≡ true → b ≡ true) → (b ≡ true → a ≡ true) → a ≡ b
+agreeing true b f g = sym (f refl)
+agreeing false true f g = g refl
+agreeing false false f g = refl
 
--- What holds of the codes of all ways, and of the shut one behind them, holds of every way's code.
-pub each_code : (m : Lts) (names : List ℕ) (P : ℕ → Type 0) (s k : ℕ) → length (m.ways s) < k → ((j : ℕ) → j < k → P (code_of names (way_at m s j))) → (j : ℕ) → P (code_of names (way_at m s j))
-each_code m names P s k all h j =
-    by_order j k (h j)
-    (λ l. subst P (has_shut m names s (length (m.ways s)) (omega arith) ∙ sym (has_shut m names s j (omega arith))) (h (length (m.ways s)) all))
+module _ (m : Lts) (names : List ℕ) where
+  signed_low : (s i : ℕ) → signed m names s i ≡ true → i < 108545
+  signed_low s i h = let x = coded_by names (m.ways s) i h in subst (λ i. i < 108545) x.code (code_low names (x.action, x.target))
 
-module _ (m : Lts) (wide : Wide m) (names : List ℕ) where
-  -- The names of classes are below 2,048.
-  pub classed_below : (r : ℕ) → Classed m r names → Below m names
-  classed_below r classed s l = omega (arith, class_low m r names classed s l, wide.most)
-
-  module _ (below : Below m names) where
-    pub way_coded : (s k : ℕ) (o : Way) → o ≡ way_at m s k → Coded names o
-    way_coded s k None e = tt
-    way_coded s k (Some p) e =
-        let l = wide.target s k p.0 p.1 (sym e) in
-        (wide.action s k p.0 p.1 (sym e), omega (arith, l, wide.most), below p.1 l)
-
-    coded_low : (o : Way) → Coded names o → code_of names o < 108545
-    coded_low None h = omega arith
-    coded_low (Some p) h = omega (arith, h.0, h.2)
-
-    pub has_low : (s i : ℕ) → Has m names s i → i < 108545
-    has_low s i h = subst (λ i. i < 108545) h.1 (coded_low (way_at m s h.0) (way_coded s h.0 (way_at m s h.0) refl))
-
-    -- Signatures of one weight, of which one has each code of the other, are the same.
-    pub weights_tell : (s t p q : ℕ) → Weighs m names s p → Weighs m names t q → q ≡ p → ((i : ℕ) → Has m names t i → Has m names s i) → Alike m names s t
-    weights_tell s t p q x y e back = record { forth = λ i h. found i h (cases_Bool (y.test i)); back = back }
-      where
-        less : (i : ℕ) → Has m names s i → y.test i ≡ false → weighed weight_of y.test 108545 < weighed weight_of x.test 108545
-        less i h out =
-            weighed_less weight_of y.test x.test weight_some i 108545 (λ j l k. x.complete j (back j (y.sound j k))) (has_low s i h) out (x.complete i h)
-
-        found : (i : ℕ) → Has m names s i → (y.test i ≡ true) ⊎ (y.test i ≡ false) → Has m names t i
-        found i h (inl yes') = y.sound i yes'
-        found i h (inr out) = absurd (omega (arith, less i h out, x.total, y.total))
+  -- Signatures of one weight, of which one has each code of the other, are the same.
+  pub weights_tell : (s t p q : ℕ) → Weighs m names s p → Weighs m names t q → q ≡ p → ((i : ℕ) → signed m names t i ≡ true → signed m names s i ≡ true) → Alike m names s t
+  weights_tell s t p q x y e back i = agreeing (signed m names s i) (signed m names t i) (λ h. found h (cases_Bool (signed m names t i))) (back i)
+    where
+      found : signed m names s i ≡ true → (signed m names t i ≡ true) ⊎ (signed m names t i ≡ false) → signed m names t i ≡ true
+      found h (inl yes') = yes'
+      found h (inr out) =
+          absurd (omega (arith, weighed_less weight_of (signed m names t) (signed m names s) weight_some i 108545 (λ j l. back j) (signed_low s i h) out h, x, y))
 
   -- Same signatures have one weight.
   pub alike_weights : (s t p q : ℕ) → Weighs m names s p → Weighs m names t q → Alike m names s t → q ≡ p
-  alike_weights s t p q x y h =
-      y.total ∙ weighed_same weight_of y.test x.test 108545 (λ i l. agreeing (y.test i) (x.test i) (λ k. x.complete i (h.back i (y.sound i k))) (λ k. y.complete i (h.forth i (x.sound i k)))) ∙ sym x.total
-    where
-      agreeing : (a b : Bool) → (a ≡ true → b ≡ true) → (b ≡ true → a ≡ true) → a ≡ b
-      agreeing true b f g = sym (f refl)
-      agreeing false true f g = g refl
-      agreeing false false f g = refl
+  alike_weights s t p q x y h = y ∙ weighed_same weight_of (signed m names t) (signed m names s) 108545 (λ i l. sym (h i)) ∙ sym x
 
-  module _ (r : ℕ) (classed : Classed m r names) where
-    -- The code of a move is that of a way by the same action into the same class.
-    decoded : (a c : ℕ) → a ≤ 52 → c < 2048 → (o : Way) → Coded names o → code_of names o ≡ a * 2048 + c → (v : ℕ) × (o ≡ Some (a, v)) × (get_or names v 0 ≡ c)
-    decoded a c la lc None h e = absurd (omega arith)
-    decoded a c la lc (Some p) h e =
-        let x : p.0 ≡ a = omega (arith, h.2) in
-        (p.1, ap (λ b. Some (b, p.1)) x, omega (arith, h.2))
-
-    below : Below m names
-    below = classed_below r classed
+  module _ (wide : Wide m) (r : ℕ) (classed : Classed m r names) where
+    -- The names of classes are below 2,048.
+    pub name_small : (s : ℕ) → s < m.states → get_or names s 0 < 2048
+    name_small s l = omega (arith, class_low m r names classed s l, wide.most)
 
     -- Where t has the signature of s, each move of s is matched.
-    covers_matched : (s t : ℕ) → ((i : ℕ) → Has m names s i → Has m names t i) → Matched m (Agree m r) s t
+    covers_matched : (s t : ℕ) → ((i : ℕ) → signed m names s i ≡ true → signed m names t i ≡ true) → Matched m (Agree m r) s t
     covers_matched s t h a u (k, e) =
+        let x = coded_by names (m.ways t) (code_of names (a, u)) (h (code_of names (a, u)) (move_coded names (m.ways s) k a u e)) in
+        let v = x.target in
         let lu = wide.target s k a u e in
-        let x = h (code_of names (way_at m s k)) (k, refl) in
-        let j = x.0 in
-        let y = decoded a (get_or names u 0) (wide.action s k a u e) (below u lu) (way_at m t j) (way_coded below t j (way_at m t j) refl) (x.1 ∙ ap (code_of names) e) in
-        (y.0, (j, y.1), same_agree m r names classed u y.0 lu (wide.target t j a y.0 y.1) (sym y.2))
+        let lv = wide.target t x.place x.action v x.way in
+        let y = same_code names a u x.action v (wide.action s k a u e) (wide.action t x.place x.action v x.way) (name_small u lu) (name_small v lv) x.code in
+        (v, (x.place, rw y.0 at x.way), same_agree m r names classed u v lu lv (sym y.1))
 
-    matched_covers : (s t : ℕ) → Matched m (Agree m r) s t → (i : ℕ) → Has m names s i → Has m names t i
-    matched_covers s t h i (k, e) = go (way_at m s k) refl
-      where
-        go : (o : Way) → way_at m s k ≡ o → Has m names t i
-        go None q = (length (m.ways t), has_shut m names t (length (m.ways t)) (omega arith) ∙ sym (ap (code_of names) q) ∙ e)
-        go (Some p) q =
-            let x = h p.0 p.1 (k, q) in
-            let v = x.0 in
-            let j = x.1.0 in
-            let c : get_or names v 0 ≡ get_or names p.1 0 = sym (agree_same m r names classed p.1 v (wide.target s k p.0 p.1 q) (wide.target t j p.0 v x.1.1) x.2) in
-            (j, ap (code_of names) x.1.1 ∙ ap (λ c. p.0 * 2048 + c) c ∙ sym (ap (code_of names) q) ∙ e)
+    matched_covers : (s t : ℕ) → Matched m (Agree m r) s t → (i : ℕ) → signed m names s i ≡ true → signed m names t i ≡ true
+    matched_covers s t h i e =
+        let x = coded_by names (m.ways s) i e in
+        let a = x.action in
+        let u = x.target in
+        let y = h a u (x.place, x.way) in
+        let same : get_or names u 0 ≡ get_or names y.0 0 = agree_same m r names classed u y.0 (wide.target s x.place a u x.way) (wide.target t y.1.0 a y.0 y.1.1) y.2 in
+        subst (λ c. signed m names t c ≡ true) (ap (λ n. min (a * 2048 + n) 108544) (sym same) ∙ x.code) (move_coded names (m.ways t) y.1.0 a y.0 y.1.1)
 
     pub alike_agree : (s t : ℕ) → Alike m names s t → Agree m (suc r) s t
-    alike_agree s t h = (covers_matched s t h.forth, matched_wider m (Agree m r) (λ u v. Agree m r v u) (agree_sym m r) t s (covers_matched t s h.back))
+    alike_agree s t h = (
+      covers_matched s t (λ i e. sym (h i) ∙ e),
+      matched_wider m (Agree m r) (λ u v. Agree m r v u) (agree_sym m r) t s (covers_matched t s (λ i e. h i ∙ e)),
+    )
 
     pub agree_alike : (s t : ℕ) → Agree m (suc r) s t → Alike m names s t
-    agree_alike s t h = record {
-      forth = matched_covers s t h.0;
-      back = matched_covers t s (matched_wider m (λ u v. Agree m r v u) (Agree m r) (λ u v. agree_sym m r v u) t s h.1);
-    }
+    agree_alike s t h i =
+        agreeing (signed m names s i) (signed m names t i) (matched_covers s t h.0 i)
+        (matched_covers t s (matched_wider m (λ u v. Agree m r v u) (Agree m r) (λ u v. agree_sym m r v u) t s h.1) i)
+
+-- One move more is marked: n is its code, and `before` is whether it was marked.
+module _ (names : List ℕ) (ps : List (ℕ × ℕ)) (p : ℕ × ℕ) where
+  code_more : (i : ℕ) → coded names (ps ++ p ∷ []) i ≡ (coded names ps i || eqb (code_of names p) i)
+  code_more i = list_any-append (λ q. eqb (code_of names q) i) ps (p ∷ []) ∙ ap (λ b. coded names ps i || b) (or-false (eqb (code_of names p) i))
+
+  total_more : weighed weight_of (coded names ps) 108545 + cond (coded names ps (code_of names p)) 0 (weight_of (code_of names p)) ≡ weighed weight_of (coded names (ps ++ p ∷ [])) 108545
+  total_more =
+      weighed_more weight_of (coded names ps) (coded names (ps ++ p ∷ [])) (code_of names p) 108545 (code_low names p)
+      (λ i ne. sym (code_more i ∙ ap (λ b. coded names ps i || b) (ne_eqb (code_of names p) i (λ e. ne (sym e))) ∙ or-false (coded names ps i)))
+      (code_more (code_of names p) ∙ or_right (coded names ps (code_of names p)) (eqb (code_of names p) (code_of names p)) (eq-eqb (code_of names p) (code_of names p) refl))
+
+  module _ (n print : ℕ) (old new : Marks) (before : Bool) (e : n ≡ code_of names p) (codes : (i : ℕ) → marked old i ≡ coded names ps i) (total : print ≡ weighed weight_of (coded names ps) 108545)
+      (was : before ≡ marked old n) (more : (i : ℕ) → marked new i ≡ (marked old i || eqb n i)) where
+    pub marked_more : (i : ℕ) → marked new i ≡ coded names (ps ++ p ∷ []) i
+    marked_more i = more i ∙ ap₂ (λ b c. b || eqb c i) (codes i) e ∙ sym (code_more i)
+
+    share : (b : Bool) → before ≡ b → print + cond b 0 (weight_of n) ≡ weighed weight_of (coded names (ps ++ p ∷ [])) 108545
+    share b q =
+        let c : b ≡ coded names ps (code_of names p) = sym q ∙ was ∙ codes n ∙ ap (coded names ps) e in
+        ap₂ ◌+◌ total (ap₂ (λ b k. cond b 0 (weight_of k)) c e) ∙ total_more
+
+    pub weight_more : before ≡ false → print + weight_of n ≡ weighed weight_of (coded names (ps ++ p ∷ [])) 108545
+    weight_more = share false
+
+    pub weight_same : before ≡ true → print ≡ weighed weight_of (coded names (ps ++ p ∷ [])) 108545
+    weight_same q = omega (arith, share true q)
+
+    pub weight_fits : print + weight_of n ≤ 466201520111617
+    weight_fits = omega (arith, total, weighed_most weight_of 4294967296 weight_most (coded names ps) 108545, weight_most n)
+
+-- Where the signature of s is marked and has the weight p, t passes just where the two are alike.
+pub tells :
+    (m : Lts) (names : List ℕ) (s t p q : ℕ) (marks : Marks) → Marked m names s marks → Weighs m names s p → Weighs m names t q
+    → Decides (passes m names marks p t q) (Alike m names s t)
+tells m names s t p q marks h x y = (
+  λ e.
+      let b = both (eqb q p) (list_all (λ x. marked marks (code_of names x)) (moves (m.ways t))) e in
+      weights_tell m names s t p q x y (eqb-true q p b.0) (λ i k. sym (h i) ∙ all_coded names (marked marks) (moves (m.ways t)) b.1 i k),
+  λ like.
+      and_from (eqb q p) (list_all (λ x. marked marks (code_of names x)) (moves (m.ways t))) (eq-eqb q p (alike_weights m names s t p q x y like))
+      (coded_all names (marked marks) (moves (m.ways t)) (λ i k. h i ∙ like i ∙ k)),
+)

@@ -1,35 +1,23 @@
--- Signatures: for each way of a state its action and the class of its target. States with one signature agree to one
+-- Signatures: for each move of a state its action and the class of its target. States with one signature agree to one
 -- depth more than the classes say. Assumes nothing.
-use Rattle.std.specs.Prelude.{◌≡◌, ℕ, zero, suc, ◌+◌, ◌*◌, ◌%◌, ◌<◌, ◌≤◌, Bool, true, false, cond, List, Some, None, slice_index}
-use Rattle.lts.specs.Lts.{Lts, Way, way_at}
+use Rattle.std.specs.Prelude.{◌≡◌, ℕ, zero, suc, ◌+◌, ◌*◌, ◌%◌, Bool, cond, ◌&&◌, ◌==◌, List}
+use Rattle.std.specs.List.{list_all}
+use Rattle.lts.specs.Lts.{Lts}
+use Rattle.refine.specs.Codes.{moves, code_of, coded}
+use Rattle.refine.specs.Marks.{marked}
+use Rattle.refine.specs.declared.marks.Marks.{Marks}
 
--- The code of a way: its action and the name of its target's class as one number, and 108,544 where it is shut.
-abbrev pub code_of : List ℕ → Way → ℕ
-code_of names None = 108544
-code_of names (Some p) = p.0 * 2048 + slice_index names p.1
-
--- The way has a code up to 108,544.
-abbrev pub Coded : List ℕ → Way → Type 0
-Coded names None = Unit {0}
-Coded names (Some p) = (p.0 ≤ 52) × (p.1 < 2048) × (slice_index names p.1 < 2048)
-
--- Each name of a class is a number below 2,048.
-abbrev pub Below : Lts → List ℕ → Type 0
-Below m names = (s : ℕ) → s < m.states → slice_index names s < 2048
-
--- The code is in the signature of s. Ways past the last are shut, so each signature has the code of a shut way.
-abbrev pub Has : Lts → List ℕ → ℕ → ℕ → Type 0
-Has m names s i = (k : ℕ) × (code_of names (way_at m s k) ≡ i)
+-- The code is in the signature of s.
+abbrev pub signed : Lts → List ℕ → ℕ → ℕ → Bool
+signed m names s = coded names (moves (m.ways s))
 
 -- s and t have the same signature.
-pub record Alike (m : Lts) (names : List ℕ) (s t : ℕ) : Type 0 where
-  pub forth : (i : ℕ) → Has m names s i → Has m names t i
-  pub back : (i : ℕ) → Has m names t i → Has m names s i
+abbrev pub Alike : Lts → List ℕ → ℕ → ℕ → Type 0
+Alike m names s t = (i : ℕ) → signed m names s i ≡ signed m names t i
 
--- The answer is whether s and t have the same signature.
-pub record Compared (m : Lts) (names : List ℕ) (s t : ℕ) (answer : Bool) : Type 0 where
-  pub yes : answer ≡ true → Alike m names s t
-  pub no : answer ≡ false → ¬ Alike m names s t
+-- The codes that are marked are the signature of s.
+abbrev pub Marked : Lts → List ℕ → ℕ → Marks → Type 0
+Marked m names s marks = (i : ℕ) → marked marks i ≡ signed m names s i
 
 -- The sum of the weights of the numbers below n that pass the test.
 unfoldable pub weighed : (ℕ → ℕ) → (ℕ → Bool) → ℕ → ℕ
@@ -41,17 +29,9 @@ unfoldable pub weight_of : ℕ → ℕ
 weight_of n = let x = (n * 2654435761 + 40503) % 4294967291 in (x * x) % 4294967291 + 1
 
 -- The signature of s has this weight.
-pub record Weighs (m : Lts) (names : List ℕ) (s weight : ℕ) : Type 0 where
-  pub test : ℕ → Bool
-  pub sound : (i : ℕ) → test i ≡ true → Has m names s i
-  pub complete : (i : ℕ) → Has m names s i → test i ≡ true
-  pub total : weight ≡ weighed weight_of test 108545
+abbrev pub Weighs : Lts → List ℕ → ℕ → ℕ → Type 0
+Weighs m names s weight = weight ≡ weighed weight_of (signed m names s) 108545
 
--- Every stamp is below this one.
-abbrev pub Under : ℕ → List ℕ → Type 0
-Under stamp stamps = (i : ℕ) → slice_index stamps i < stamp
-
--- The codes that have the stamp are the signature of s.
-pub record Marked (m : Lts) (names : List ℕ) (s stamp : ℕ) (stamps : List ℕ) : Type 0 where
-  pub sound : (i : ℕ) → slice_index stamps i ≡ stamp → Has m names s i
-  pub complete : (i : ℕ) → Has m names s i → slice_index stamps i ≡ stamp
+-- Whether the weight of t is the one sought, and each code of t is marked.
+abbrev pub passes : Lts → List ℕ → Marks → ℕ → ℕ → ℕ → Bool
+passes m names marks sought t weight = weight == sought && list_all (λ p. marked marks (code_of names p)) (moves (m.ways t))

@@ -1,10 +1,15 @@
 // The classes of bisimilar states.
 
-// For each state the lowest state of its class, which names it. For each name but 0, the name from which it parted,
-// and the depth at which the two first disagree.
+// The name from which a name parted, and the depth at which the two first disagree.
+#[derive(Clone, Copy, Default)]
+pub(crate) struct Parting {
+    pub(crate) parent: u16,
+    pub(crate) depth: u16,
+}
+
+// For each state the lowest state of its class, which names it, and for each name but 0 how it parted.
 #[derive(Clone, Copy)]
 pub struct Classes {
     pub(crate) names: [u16; 2048],
-    pub(crate) parents: [u16; 2048],
-    pub(crate) depths: [u16; 2048],
+    pub(crate) partings: [Parting; 2048],
 }

@@ -4,22 +4,10 @@ ghost use Rattle.lts.specs.Lts.{Lts};
 ghost use Rattle.hml.specs.Distinguishing.{FirstApart};
 ghost use Rattle.pair.specs.Wide.{Wide};
 ghost use Rattle.refine.specs.Apart.{PartsAt};
-ghost use Rattle.refine.specs.Classes.{Refined};
+ghost use Rattle.refine.specs.Classes.{Refined, parting_at};
 ghost use Rattle.refine.specs.Climbs.{IsName};
 
-use crate::classes::Classes;
-
-// The entry at a place: 0 past the last.
-fn entry(list: &[u16; 2048], place: u16) -> u16
-    ensures value { result ≡ slice_index list.now place }
-    ensures past { 2048 ≤ place → result ≡ 0 }
-{
-    if place < 2048 {
-        list[place as usize]
-    } else {
-        0
-    }
-}
+use crate::classes::{Classes, Parting};
 
 impl Classes {
     // The name of the state's class: 0 for a state over 2,047.
@@ -27,23 +15,17 @@ impl Classes {
         ensures value { result ≡ slice_index self.now.names state }
         ensures past { 2048 ≤ state → result ≡ 0 }
     {
-        entry(&self.names, state)
+        self.names.get(usize::from(state)).copied().unwrap_or(0)
     }
 
-    // The depth at which a name parted.
-    fn depth(&self, name: u16) -> u16
-        ensures { result ≡ slice_index self.now.depths name }
+    // How a name parted.
+    pub(crate) fn parting(&self, name: u16) -> Parting
+        ensures { result ≡ parting_at self.now.partings name }
     {
-        entry(&self.depths, name)
-    }
-
-    // The name from which a name parted, and 0 where none below it is known.
-    fn parent(&self, name: u16) -> u16
-        ensures value { slice_index self.now.parents name < name → result ≡ slice_index self.now.parents name }
-        ensures lower { 0 < name → result < name }
-    {
-        let parent = entry(&self.parents, name);
-        if parent < name { parent } else { 0 }
+        self.partings
+            .get(usize::from(name))
+            .copied()
+            .unwrap_or_default()
     }
 
     // The least depth at which two names disagree: the least of those at which they part on the way to a common name.
@@ -52,11 +34,12 @@ impl Classes {
     {
         let mut high = first.max(second);
         let mut low = first.min(second);
-        let mut least = self.depth(high);
+        let mut least = self.parting(high).depth;
         while low < high {
-            let depth = self.depth(high);
-            let parent = self.parent(high);
-            least = least.min(depth);
+            let parting = self.parting(high);
+            // where the classes are refined, the parent of a name is below it
+            let parent = parting.parent.min(high - 1);
+            least = least.min(parting.depth);
             high = parent.max(low);
             low = parent.min(low);
         }

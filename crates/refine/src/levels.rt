@@ -2,7 +2,7 @@
 ghost use Rattle.std.specs.Prelude.{◌≡◌, ◌<◌, ◌≤◌, slice_index};
 ghost use Rattle.lts.specs.Lts.{Lts};
 ghost use Rattle.pair.specs.Wide.{Wide};
-ghost use Rattle.refine.specs.Classes.{Classed, Refined};
+ghost use Rattle.refine.specs.Classes.{Classed, Refined, parting_at};
 
 use crate::classes::Classes;
 
@@ -10,18 +10,18 @@ impl Classes {
     // The state whose class state s is in to this depth: the name of s, or the name from which s parted later, and s
     // itself where it is a name already.
     fn leader(&self, s: u16, depth: u16) -> u16
-        requires { s < 2048 }
         ensures named { slice_index self.now.names s < s → result ≡ slice_index self.now.names s }
-        ensures itself { s ≤ slice_index self.now.names s → slice_index self.now.depths s ≤ depth → result ≡ s }
-        ensures parent { s ≤ slice_index self.now.names s → depth < slice_index self.now.depths s → result ≡ slice_index self.now.parents s }
+        ensures itself { s ≤ slice_index self.now.names s → (parting_at self.now.partings s).depth ≤ depth → result ≡ s }
+        ensures parent { s ≤ slice_index self.now.names s → depth < (parting_at self.now.partings s).depth → result ≡ (parting_at self.now.partings s).parent }
     {
-        let at = s as usize;
-        if self.names[at] < s {
-            self.names[at]
-        } else if self.depths[at] <= depth {
+        let name = self.name(s);
+        let parting = self.parting(s);
+        if name < s {
+            name
+        } else if parting.depth <= depth {
             s
         } else {
-            self.parents[at]
+            parting.parent
         }
     }
 
@@ -29,22 +29,14 @@ impl Classes {
     pub fn names_at(&self, depth: u16, names: &mut [u16; 2048])
         ensures { (m : Lts) → Wide m → Refined m self.now → Classed m depth names.new }
     {
+        // the names below are read while the list is written, so the states are gone through by number
         for s in 0..2048u16 {
             let leader = self.leader(s, depth);
-            names[s as usize] = led(names, leader, s);
+            names[usize::from(s)] = if leader < s {
+                names[usize::from(leader)]
+            } else {
+                s
+            };
         }
-    }
-}
-
-// The name of the leader, where it is lower, and else s.
-fn led(names: &[u16; 2048], leader: u16, s: u16) -> u16
-    requires { s < 2048 }
-    ensures lower { leader < s → result ≡ slice_index names.now leader }
-    ensures itself { s ≤ leader → result ≡ s }
-{
-    if leader < s {
-        names[leader as usize]
-    } else {
-        s
     }
 }

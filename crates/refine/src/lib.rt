@@ -3,36 +3,36 @@
 
 ghost use Rattle.refine.specs.Classes.{Refined};
 
-use crate::classes::Classes;
-use crate::round::{part, split};
-use crate::signature::Marks;
+use crate::classes::{Classes, Parting};
+use crate::level::Level;
+use crate::marks::Marks;
 use pair::graph::Graph;
 
 pub mod classes;
 mod climb;
+pub mod codes;
+mod level;
 mod levels;
+pub mod marks;
 mod round;
 mod signature;
 
-// The classes of the system. To depth 0 all states agree, and each round finds the classes to one depth more.
+// The classes of the system. Each round finds the classes to one depth more, until they stay.
 pub fn refine<G: Graph>(graph: &G) -> Classes
     ensures { Refined (G.Graph.means graph.now) result }
 {
-    let mut names = [0; 2048];
-    let mut parents = [0; 2048];
-    let mut depths = [0; 2048];
+    let mut level = Level::first(graph);
+    let mut partings = [Parting::default(); 2048];
     let mut marks = Marks::new();
-    for depth in 0..2048 {
-        let round = split(graph, &names, depth, &mut marks);
-        if round.count == 0 {
+    loop {
+        let round = level.split(&mut marks);
+        if round.fresh.is_empty() {
             return Classes {
-                names,
-                parents,
-                depths,
+                names: level.names,
+                partings,
             };
         }
-        part(&names, &round, depth, &mut parents, &mut depths);
-        names = round.next;
+        level.part(&round, &mut partings);
+        level = level.deeper(round);
     }
-    unreachable()
 }

@@ -1,53 +1,54 @@
 -- Each round keeps the state of refinement, and the first that adds no name ends it.
-use Rattle.std.proofs.Common.{◌<◌, replicate, arith}
+use Rattle.std.proofs.Common.{◌<◌, sym, ◌∙◌, subst, arith}
+use Rattle.std.proofs.lemmas.Bool.{true≢false, eq-eqb, eqb-true}
+use Rattle.hml.proofs.Deciding.{by_order}
+use Rattle.arrayvec.specs.ArrayVec.{array_vec_len}
+use Rattle.refine.specs.Classes.{Refined}
+use Rattle.refine.proofs.Naming.{classed_of}
 use Rattle.refine.proofs.Refining.{names_few, begins, rests, refining_more}
 use Rattle.refine.proofs.refine.Goals as goal
 
-pub loop-depth-init : goal.loop-depth-init
-loop-depth-init g c =
-    begins (g.G.Graph.means c.args.graph.now) (g.met.G.Graph.wide c.args.graph.now) (replicate 2048 0) (replicate 2048 0) c.new-marks.result.stamps c.new-marks.ensures
+pub loop-marks-init : goal.loop-marks-init
+loop-marks-init g c = record {
+  same = c.first-level.ensures.graph;
+  refining = begins (g.G.Graph.means c.first-level.result.graph.now) (g.met.G.Graph.wide c.first-level.result.graph.now) _ _ _ c.first-level.ensures.depth c.first-level.ensures.names;
+}
 
-pub split-round-requires : goal.split-round-requires
-split-round-requires g c = record { classed = c.loop-depth.invariant.classed; clean = c.loop-depth.invariant.under }
+pub returns-then-is_empty : goal.returns-then-is_empty
+returns-then-is_empty g c =
+    let level = c.loop-marks.level in
+    let m = g.G.Graph.means level.graph.now in
+    let classed = classed_of m level.depth level.names level.classed in
+    subst (λ x. Refined (g.G.Graph.means x) (record { names = level.names; partings = c.loop-marks.partings })) c.loop-marks.invariant.same
+    (record {
+      depth = level.depth;
+      classed = classed;
+      rests = rests m (g.met.G.Graph.wide level.graph.now) level.depth level.names c.split-round.result classed c.split-round.ensures (eqb-true (array_vec_len c.split-round.result.fresh) 0 (sym c.is_empty.ensures ∙ c.if-is_empty.true));
+      parted = c.loop-marks.invariant.refining.treed;
+    })
 
 pub part-requires : goal.part-requires
 part-requires g c =
-    let wide = g.met.G.Graph.wide c.args.graph.now in
-    let placed = c.split-round.ensures.placed in
-    (omega (arith, wide.most, placed.few), (c.loop-depth-test.true, λ j l. omega (arith, wide.most, placed.fresh j l)))
+    let level = c.loop-marks.level in
+    (c.split-round.ensures, omega (arith, c.loop-marks.invariant.refining.enough, names_few (g.G.Graph.means level.graph.now) (g.met.G.Graph.wide level.graph.now) level.names))
 
-pub loop-depth-preserved : goal.loop-depth-preserved
-loop-depth-preserved g c =
-    let some : 0 < c.split-round.result.count = omega (arith, c.if-round-eq0.false) in
-    refining_more (g.G.Graph.means c.args.graph.now) (g.met.G.Graph.wide c.args.graph.now) c.loop-depth.depth c.loop-depth.names c.split-round.result
-    c.loop-depth.invariant.classed
-    c.split-round.ensures.placed
-    c.loop-depth.parents
-    c.loop-depth.depths
-    c.part.new.parents
-    c.part.new.depths
-    c.loop-depth.invariant.treed
-    c.part.ensures.parents
-    c.part.ensures.depths
-    c.part.ensures.others
-    c.loop-depth.marks.stamps
-    c.split-round.new.marks.stamps
-    c.loop-depth.invariant
-    some
-    c.split-round.ensures.clean
+pub deeper-level-requires : goal.deeper-level-requires
+deeper-level-requires g c =
+    let level = c.loop-marks.level in
+    (c.split-round.ensures, omega (arith, c.loop-marks.invariant.refining.enough, names_few (g.G.Graph.means level.graph.now) (g.met.G.Graph.wide level.graph.now) level.names))
 
-pub unreachable-requires : goal.unreachable-requires
-unreachable-requires g c =
-    omega (arith, c.loop-depth.invariant.enough, c.loop-depth-test.false, names_few (g.G.Graph.means c.args.graph.now) (g.met.G.Graph.wide c.args.graph.now) c.loop-depth.names)
+pub loop-marks-smaller : goal.loop-marks-smaller
+loop-marks-smaller g c =
+    let level = c.loop-marks.level in
+    omega (arith, c.deeper-level.ensures.depth, c.loop-marks.invariant.refining.enough, names_few (g.G.Graph.means level.graph.now) (g.met.G.Graph.wide level.graph.now) level.names)
 
-pub returns-then-round-eq0 : goal.returns-then-round-eq0
-returns-then-round-eq0 g c = record {
-  depth = c.loop-depth.depth;
-  classed = c.loop-depth.invariant.classed;
-  rests =
-      rests (g.G.Graph.means c.args.graph.now) (g.met.G.Graph.wide c.args.graph.now) c.loop-depth.depth c.loop-depth.names c.split-round.result
-      c.loop-depth.invariant.classed
-      c.split-round.ensures.placed
-      c.if-round-eq0.true;
-  parted = c.loop-depth.invariant.treed;
-}
+pub loop-marks-preserved : goal.loop-marks-preserved
+loop-marks-preserved g c =
+    let level = c.loop-marks.level in
+    let m = g.G.Graph.means level.graph.now in
+    let w = c.split-round.result in
+    let h = c.loop-marks.invariant in
+    let some : 0 < array_vec_len w.fresh = by_order 0 (array_vec_len w.fresh) (λ l. l)
+    (λ l. absurd (true≢false (sym (eq-eqb (array_vec_len w.fresh) 0 (omega (arith, l))) ∙ sym c.is_empty.ensures ∙ c.if-is_empty.false))) in
+    let more = refining_more m (g.met.G.Graph.wide level.graph.now) level.depth level.names w (classed_of m level.depth level.names level.classed) c.split-round.ensures c.loop-marks.partings c.part.new.partings h.refining c.part.ensures.fresh c.part.ensures.others some in
+    record { same = c.deeper-level.ensures.graph ∙ h.same; refining = rw (c.deeper-level.ensures.graph, c.deeper-level.ensures.names, c.deeper-level.ensures.depth) more }

@@ -1,8 +1,0 @@
--- The weight is computed as it is defined.
-use Rattle.std.proofs.Common.{refl}
-use Rattle.refine.specs.Signatures.{weight_of}
-use Rattle.refine.proofs.signature.weight.Goals as goal
-
-pub returns : goal.returns
-unfolding weight_of
-returns c = refl

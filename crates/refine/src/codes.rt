@@ -1,0 +1,27 @@
+// Codes of moves, and marks for them.
+ghost use Rattle.std.specs.Prelude.{◌≡◌, ◌<◌};
+ghost use Rattle.refine.specs.Codes.{code_of};
+
+// The codes of 53 actions with 2,048 names each, and one more for what is no move of a system.
+pub const CODES: usize = 53 * 2048 + 1;
+
+// A number for a move by its action and the name of its target's class.
+#[derive(Clone, Copy)]
+pub struct Code {
+    pub(crate) number: usize,
+    ghost low: { number < 108545 },
+}
+
+impl Code {
+    // The code of a move, where names has the names of the classes.
+    pub fn of(step: (u8, u16), names: &[u16; 2048]) -> Code
+        ensures { result.number ≡ code_of names.now step }
+    {
+        let (action, target) = step;
+        let name = names.get(usize::from(target)).copied().unwrap_or(0);
+        let number = usize::from(action) * 2048 + usize::from(name);
+        Code {
+            number: number.min(CODES - 1),
+        }
+    }
+}
