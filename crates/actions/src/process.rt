@@ -2,12 +2,14 @@
 ghost use Rattle.std.specs.Prelude.{◌≡◌, ◌+◌, ◌<◌, ◌≤◌, MatchOption};
 
 // A process, A to Z, by its number from 0.
+// The project sets that `Signal`, which is much the same, is a struct apart.
 #[derive(Clone, Copy, PartialEq, Eq, Debug)]
 pub struct Process {
     number: u8,
     ghost below: { number < 26 },
 }
 
+// A byte may be a number or a letter, which `TryFrom` and `From` would not tell apart, so each has a function.
 impl Process {
     // The process of this number; none from 26 on.
     pub fn new(number: u8) -> Option<Self>
@@ -24,12 +26,7 @@ impl Process {
     pub fn named(capital: u8) -> Option<Self>
         ensures { MatchOption result ((65 ≤ capital → capital ≤ 90 → ⊥)) (λ p. p.number + 65 ≡ capital) }
     {
-        match capital {
-            b'A'..=b'Z' => Some(Process {
-                number: capital - b'A',
-            }),
-            _ => None,
-        }
+        Self::new(capital.checked_sub(b'A')?)
     }
 
     pub fn number(self) -> u8

@@ -14,8 +14,8 @@ impl Action {
     {
         match bytes {
             [b'*'] => Some(Action::Silent),
-            [letter @ b'a'..=b'z'] => Some(Action::Receive(Signal::of_letter(*letter))),
-            [b'^', letter @ b'a'..=b'z'] => Some(Action::Send(Signal::of_letter(*letter))),
+            [letter] => Signal::named(*letter).map(Action::Receive),
+            [b'^', letter] => Signal::named(*letter).map(Action::Send),
             _ => None,
         }
     }

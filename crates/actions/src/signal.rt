@@ -2,12 +2,14 @@
 ghost use Rattle.std.specs.Prelude.{◌≡◌, ◌+◌, ◌<◌, ◌≤◌, MatchOption};
 
 // A signal, a to z, by its number from 0.
+// The project sets that `Process`, which is much the same, is a struct apart.
 #[derive(Clone, Copy, PartialEq, Eq, Debug)]
 pub struct Signal {
     number: u8,
     ghost below: { number < 26 },
 }
 
+// A byte may be a number or a letter, which `TryFrom` and `From` would not tell apart, so each has a function.
 impl Signal {
     // The signal of this number; none from 26 on.
     pub fn new(number: u8) -> Option<Self>
@@ -24,21 +26,7 @@ impl Signal {
     pub fn named(letter: u8) -> Option<Self>
         ensures { MatchOption result ((97 ≤ letter → letter ≤ 122 → ⊥)) (λ s. s.number + 97 ≡ letter) }
     {
-        match letter {
-            b'a'..=b'z' => Some(Signal::of_letter(letter)),
-            _ => None,
-        }
-    }
-
-    // The signal that a small letter names.
-    pub(crate) fn of_letter(letter: u8) -> Self
-        requires low { 97 ≤ letter }
-        requires high { letter ≤ 122 }
-        ensures { result.number + 97 ≡ letter }
-    {
-        Signal {
-            number: letter - b'a',
-        }
+        Self::new(letter.checked_sub(b'a')?)
     }
 
     pub fn number(self) -> u8

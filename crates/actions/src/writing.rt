@@ -12,14 +12,8 @@ impl fmt::Display for Action {
     fn fmt<W: fmt::Write>(&self, f: &mut fmt::Formatter<W>) -> fmt::Result {
         match self {
             Action::Silent => write!(f, "*"),
-            Action::Receive(s) => {
-                let letter = s.letter() as char;
-                write!(f, "{letter}")
-            }
-            Action::Send(s) => {
-                let letter = s.letter() as char;
-                write!(f, "^{letter}")
-            }
+            Action::Receive(s) => write!(f, "{}", char::from(s.letter())),
+            Action::Send(s) => write!(f, "^{}", char::from(s.letter())),
         }
     }
 }
