@@ -1,33 +1,24 @@
 // Transition systems as text, for people and for other programs.
 #![tactic(auto)]
 
-ghost use Rattle.std.specs.Prelude.{◌≡◌, ℕ, ◌≤◌, ◌++◌, IfOk, Some, string_bytes, OnOk};
-ghost use Rattle.listing.specs.Listing.{move_line, ways_text, listing_of};
+ghost use Rattle.std.specs.Prelude.{◌≡◌, ◌++◌, IfOk, string_bytes, OnOk};
+ghost use Rattle.listing.specs.Listing.{ways_text, listing_of};
 
 use actions::action::Action;
 use lts::System;
 use std::alloc::{AllocError, Global};
 
-// The line of one way; none where it is shut.
-fn write_move(out: &mut String, state: u16, way: Option<(u8, u16)>) -> Result<(), AllocError>
-    requires { (a t : ℕ) → way ≡ Some (a, t) → a ≤ 52 }
-    ensures { OnOk result (string_bytes out.new ≡ string_bytes out.old ++ move_line state way) }
-{
-    let Some((number, target)) = way else {
-        return Ok(());
-    };
-    let Some(action) = Action::numbered(number) else {
-        return Ok(());
-    };
-    writeln!(out, "{state},{action},{target}")
-}
-
 // The lines of all ways of a state.
 fn write_moves<S: System>(out: &mut String, system: &S, state: u16) -> Result<(), AllocError>
     ensures { OnOk result (string_bytes out.new ≡ string_bytes out.old ++ ways_text state ((S.System.means system.now).ways state)) }
 {
+    // A system is asked by numbers and lends no list, so a chain would only wrap the two questions in closures.
     for k in 0..system.ways(state) {
-        write_move(out, state, system.way(state, k))?;
+        if let Some((number, target)) = system.way(state, k) {
+            // The limits of systems say that the number is that of an action.
+            let action = Action::try_from(number).unwrap();
+            writeln!(out, "{state},{action},{target}")?;
+        }
     }
     Ok(())
 }

@@ -19,12 +19,13 @@ impl State {
         }
         digits(field)
     }
+}
 
-    pub fn number(self) -> u16
-        ensures value { result ≡ state_number self }
-        ensures bound { result < 1024 }
-    {
-        self.number
+impl From<State> for u16 {
+    ghost from_gives = { λ s n. (n ≡ state_number s) × (n < 1024) };
+
+    fn from(state: State) -> u16 {
+        state.number
     }
 }
 

@@ -2,4 +2,3 @@ pub mod Meaning
 pub mod Index
 pub mod Answers
 pub mod Limiting
-pub mod Counting

@@ -1,5 +1,6 @@
 -- The transition system that the rows of a table stand for. Assumes nothing.
-use Rattle.std.specs.Prelude.{ℕ, suc, max, cond, List, [], ◌∷◌, map, Some, ◌==◌}
+use Rattle.std.specs.Prelude.{ℕ, suc, max, List, [], ◌∷◌, map, Some, ◌==◌}
+use Rattle.std.specs.List.{filter}
 use Rattle.lts.specs.Lts.{Lts, Way}
 use Rattle.rows.specs.Format.{Transition}
 
@@ -10,8 +11,7 @@ states_of (t ∷ ts) = max (suc (max t.from t.to)) (states_of ts)
 
 -- The rows from a state, in order.
 abbrev pub rows_from : List Transition → ℕ → List Transition
-rows_from [] s = []
-rows_from (t ∷ ts) s = cond (t.from == s) (t ∷ rows_from ts s) (rows_from ts s)
+rows_from ts s = filter (λ t. t.from == s) ts
 
 -- The way that a row gives: a move, never shut.
 abbrev pub way_of : Transition → Way

@@ -2,7 +2,6 @@
 #![tactic(auto)]
 
 mod answering;
-mod indexing;
+mod index;
 mod reading;
-pub mod slot;
 pub mod table;

@@ -1,7 +1,0 @@
-// A move of a table, at its place.
-
-#[derive(Clone, Copy)]
-pub struct Slot {
-    pub action: u8,
-    pub target: u16,
-}
