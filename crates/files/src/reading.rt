@@ -4,6 +4,7 @@ ghost use Rattle.files.specs.Refusals.{number_of};
 
 use crate::sheet_file::{FileRefusal, SheetFile};
 use std::alloc::{AllocError, Global};
+use std::error::Error;
 use std::fmt;
 use std::fs::File;
 use std::io::Read;
@@ -11,24 +12,24 @@ use std::io::Read;
 const MOST_BYTES: usize = 16384;
 
 impl FileRefusal {
+    // The number of the refusal. A refusal has a text too, so `From` would not say what it is turned into.
     pub fn number(self) -> u8
         ensures { result ≡ number_of self }
     {
-        match self {
-            FileRefusal::Unreadable => 41,
-            FileRefusal::TooLarge => 42,
-        }
+        self as u8
     }
 }
 
 impl fmt::Display for FileRefusal {
     fn fmt<W: fmt::Write>(&self, f: &mut fmt::Formatter<W>) -> fmt::Result {
-        match self {
-            FileRefusal::Unreadable => write!(f, "a file that can be read was expected"),
-            FileRefusal::TooLarge => write!(f, "at most 16384 bytes were expected"),
-        }
+        f.write_str(match self {
+            FileRefusal::Unreadable => "a file that can be read was expected",
+            FileRefusal::TooLarge => "at most 16384 bytes were expected",
+        })
     }
 }
+
+impl Error for FileRefusal {}
 
 impl SheetFile {
     // No bytes, with the memory for the largest sheet.
@@ -47,30 +48,25 @@ impl SheetFile {
         self.bytes.as_slice()
     }
 
-    // Adds bytes behind those held; false where they are too many.
-    fn add(&mut self, more: &[u8]) -> bool {
-        for b in more {
-            if self.bytes.len() >= MOST_BYTES {
-                return false;
-            }
-            self.bytes.push_reserved(*b);
+    // Adds bytes behind those held.
+    fn add(&mut self, more: &[u8]) -> Result<(), FileRefusal> {
+        if more.len() > MOST_BYTES - self.bytes.len() {
+            return Err(FileRefusal::TooLarge);
         }
-        true
+        self.bytes.extend_from_slice(more).unwrap();
+        Ok(())
     }
 
-    // Reads the rest of a file, up to one byte too many.
+    // Reads the rest of a file, as long as it fits. Each read but the last gives a byte.
     fn fill(&mut self, file: &mut File) -> Result<(), FileRefusal> {
-        let mut chunk = [0u8; 1024];
+        let mut chunk = [0; 1024];
+        // Not by `read_to_end`, which may take more memory, and reports the want of it as a file that cannot be read.
         for _ in 0..=MOST_BYTES {
-            let Ok(count) = file.read(&mut chunk) else {
-                return Err(FileRefusal::Unreadable);
-            };
+            let count = file.read(&mut chunk).map_err(|_| FileRefusal::Unreadable)?;
             if count == 0 {
                 return Ok(());
             }
-            if !self.add(&chunk[0..count]) {
-                return Err(FileRefusal::TooLarge);
-            }
+            self.add(&chunk[..count])?;
         }
         Err(FileRefusal::TooLarge)
     }
@@ -80,15 +76,11 @@ impl SheetFile {
         ensures { OnErr result (self.new.bytes.items ≡ []) }
     {
         self.bytes.clear();
-        let Ok(mut file) = File::open(rt, path) else {
-            return Err(FileRefusal::Unreadable);
-        };
-        match self.fill(&mut file) {
-            Ok(()) => Ok(()),
-            Err(e) => {
-                self.bytes.clear();
-                Err(e)
-            }
+        let mut file = File::open(rt, path).map_err(|_| FileRefusal::Unreadable)?;
+        let read = self.fill(&mut file);
+        if read.is_err() {
+            self.bytes.clear();
         }
+        read
     }
 }

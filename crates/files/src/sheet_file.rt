@@ -13,7 +13,7 @@ pub struct SheetFile {
 #[derive(Clone, Copy, PartialEq, Eq, Debug)]
 pub enum FileRefusal {
     // it cannot be read as a file
-    Unreadable,
+    Unreadable = 41,
     // it has more than 16,384 bytes
-    TooLarge,
+    TooLarge = 42,
 }
