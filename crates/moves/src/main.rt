@@ -10,15 +10,12 @@ use table::table::Table;
 fn print_table(rt: &HostRuntime, path: &str) -> anyhow::Result<()> {
     let mut file = SheetFile::new(rt.alloc())?;
     if let Err(e) = file.read(rt, path) {
-        let number = e.number();
-        println!(rt; "refused,{number},0: {e}")?;
+        println!(rt; "refused,{},0: {e}", e.number())?;
         return Ok(());
     }
     let mut table = Table::new(rt.alloc())?;
     if let Err(e) = table.read(file.bytes()) {
-        let number = e.number();
-        let place = e.place();
-        println!(rt; "refused,{number},{place}: {e}")?;
+        println!(rt; "refused,{},{}: {e}", e.number(), e.place())?;
         return Ok(());
     }
     let text = list(rt.alloc(), &table)?;
@@ -27,10 +24,8 @@ fn print_table(rt: &HostRuntime, path: &str) -> anyhow::Result<()> {
 }
 
 fn run(rt: &HostRuntime) -> anyhow::Result<()> {
-    match env::args(rt)?.nth(1) {
-        Some(path) => print_table(rt, path.as_str()),
-        None => print_table(rt, "built.csv"),
-    }
+    let path = env::args(rt)?.nth(1);
+    print_table(rt, path.as_deref().unwrap_or("built.csv"))
 }
 
 fn main(rt: HostRuntime) -> anyhow::Result<()> {

@@ -21,15 +21,12 @@ fn escaped(b: u8) -> u8 {
 
 // Adds a text, with its escapes resolved.
 fn add(sheet: &mut Vec<u8>, text: &str) -> anyhow::Result<()> {
-    let mut behind = false;
-    for b in text.bytes() {
-        if behind {
-            sheet.push(escaped(b))?;
-            behind = false;
-        } else if b == b'\\' {
-            behind = true;
-        } else {
+    let mut bytes = text.bytes();
+    while let Some(b) = bytes.next() {
+        if b != b'\\' {
             sheet.push(b)?;
+        } else if let Some(b) = bytes.next() {
+            sheet.push(escaped(b))?;
         }
     }
     Ok(())
@@ -37,16 +34,12 @@ fn add(sheet: &mut Vec<u8>, text: &str) -> anyhow::Result<()> {
 
 fn sheet_of(rt: &HostRuntime, line: &str) -> anyhow::Result<Vec<u8>> {
     let mut sheet = Vec::new(rt.alloc());
-    let Some((head, more)) = line.split_once('\t') else {
-        add(&mut sheet, line)?;
-        return Ok(sheet);
-    };
+    let (head, more) = line.split_once('\t').unwrap_or((line, ""));
     add(&mut sheet, head)?;
-    let Some((count, tail)) = more.split_once('\t') else {
-        return Ok(sheet);
-    };
-    for _ in 0..count.parse::<u16>()? {
-        add(&mut sheet, tail)?;
+    if let Some((count, tail)) = more.split_once('\t') {
+        for _ in 0..count.parse::<u16>()? {
+            add(&mut sheet, tail)?;
+        }
     }
     Ok(sheet)
 }
@@ -54,9 +47,8 @@ fn sheet_of(rt: &HostRuntime, line: &str) -> anyhow::Result<Vec<u8>> {
 // The lines of a listing, with spaces for their ends.
 fn print_listing(rt: &HostRuntime, table: &Table) -> anyhow::Result<()> {
     let text = list(rt.alloc(), table)?;
-    let length = text.len();
-    if length > 200 {
-        println!(rt; "{length} bytes")?;
+    if text.len() > 200 {
+        println!(rt; "{} bytes", text.len())?;
         return Ok(());
     }
     for line in text.as_str().lines() {
@@ -72,11 +64,7 @@ fn run(rt: &HostRuntime) -> anyhow::Result<()> {
         let sheet = sheet_of(rt, line?.as_str())?;
         match table.read(sheet.as_slice()) {
             Ok(()) => print_listing(rt, &table)?,
-            Err(e) => {
-                let number = e.number();
-                let place = e.place();
-                println!(rt; "{number},{place}")?;
-            }
+            Err(e) => println!(rt; "{},{}", e.number(), e.place())?,
         }
     }
     print_listing(rt, &table)
