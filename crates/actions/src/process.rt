@@ -2,7 +2,7 @@
 ghost use Rattle.std.specs.Prelude.{◌≡◌, ◌+◌, ◌<◌, ◌≤◌, MatchOption};
 
 // A process, A to Z, by its number from 0.
-// The project sets that `Signal`, which is much the same, is a struct apart.
+// `Signal` says the same of a to z: the project sets a struct of its own for each.
 #[derive(Clone, Copy, PartialEq, Eq, Debug)]
 pub struct Process {
     number: u8,

@@ -2,7 +2,7 @@
 ghost use Rattle.std.specs.Prelude.{◌≡◌, ◌+◌, ◌<◌, ◌≤◌, MatchOption};
 
 // A signal, a to z, by its number from 0.
-// The project sets that `Process`, which is much the same, is a struct apart.
+// `Process` says the same of A to Z: the project sets a struct of its own for each.
 #[derive(Clone, Copy, PartialEq, Eq, Debug)]
 pub struct Signal {
     number: u8,

@@ -53,6 +53,7 @@ impl SheetFile {
         if more.len() > MOST_BYTES - self.bytes.len() {
             return Err(FileRefusal::TooLarge);
         }
+        // The room is there, so this takes no memory.
         self.bytes.extend_from_slice(more).unwrap();
         Ok(())
     }
