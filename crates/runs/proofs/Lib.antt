@@ -1,6 +1,6 @@
 mod Adding
 mod Arriving
-mod Counts
+mod Finding
 mod Following
 mod Marking
 pub mod Moving

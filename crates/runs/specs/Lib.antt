@@ -1,4 +1,4 @@
 pub mod Reaching
-pub mod Counting
+pub mod Wanting
 pub mod Layering
 pub mod Measuring

@@ -6,3 +6,4 @@ mod exploring;
 mod layers;
 pub mod searching;
 mod walking;
+mod wanted;
