@@ -11,7 +11,8 @@ use Rattle.hml.proofs.Agreement.{agree_refl, agree_sym, agree_less}
 use Rattle.hml.proofs.Deciding.{by_order}
 use Rattle.pair.specs.Wide.{Wide}
 use Rattle.refine.specs.Classes.{Names, Classed}
-use Rattle.refine.specs.Signatures.{Alike, Marked, Weighs, passes}
+use Rattle.refine.specs.Codes.{moves}
+use Rattle.refine.specs.Signatures.{Alike, Signed, Weighs, passes}
 use Rattle.refine.specs.Rounds.{Fresh, Placed, Entered}
 use Rattle.refine.specs.declared.marks.Marks.{Marks}
 use Rattle.refine.specs.declared.round.Round.{Round}
@@ -75,7 +76,7 @@ module _ (m : Lts) (wide : Wide m) (r : ℕ) (names : List ℕ) (classed : Class
         }
 
       -- Where the signature of s is marked and weighed, a search through the fresh names finds the name of s.
-      module _ (print : ℕ) (marks : Marks) (marked : Marked m names s marks) (weighs : Weighs m names s print) where
+      module _ (print : ℕ) (marks : Marks) (sought : Signed names (moves (m.ways s)) marks print) where
         abbrev test : ℕ → Bool
         test u = passes m names marks print u (get_or w.weights u 0)
 
@@ -87,12 +88,12 @@ module _ (m : Lts) (wide : Wide m) (r : ℕ) (names : List ℕ) (classed : Class
         found_names None h =
             none_names (λ j l like.
             let u = get_or w.fresh.items j 0 in
-            false≢true (sym (h j 0 (omega arith) l) ∙ (tells m names s u print (get_or w.weights u 0) marks marked weighs (placed.weighs u (placed.fresh j l).below)).1 like))
+            false≢true (sym (h j 0 (omega arith) l) ∙ (tells m names s u print (get_or w.weights u 0) marks sought (placed.weighs u (placed.fresh j l).below)).1 like))
         found_names (Some x) h =
             let i = h.1 in
             let e : get_or w.fresh.items i 0 ≡ x = h.3 0 in
             let low : x < s = subst (λ y. y < s) e (placed.fresh i h.2).below in
-            alike_names s x (subst (λ y. Names m (suc r) y y) e (fresh_names i h.2)) ((tells m names s x print (get_or w.weights x 0) marks marked weighs (placed.weighs x low)).0 h.0)
+            alike_names s x (subst (λ y. Names m (suc r) y y) e (fresh_names i h.2)) ((tells m names s x print (get_or w.weights x 0) marks sought (placed.weighs x low)).0 h.0)
 
     -- What is entered of s is found, and the round goes on.
     module _ (w' : Round) (u weight : ℕ) (entered : Entered w s (get_or names s 0) u weight w') (named : Names m (suc r) s u) (weighs : Weighs m names s weight) where

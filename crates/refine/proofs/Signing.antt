@@ -13,7 +13,7 @@ use Rattle.pair.specs.Wide.{Wide}
 use Rattle.refine.specs.Classes.{Classed}
 use Rattle.refine.specs.Codes.{code_of, coded, moves}
 use Rattle.refine.specs.Marks.{marked}
-use Rattle.refine.specs.Signatures.{signed, Alike, Marked, weighed, weight_of, Weighs, passes}
+use Rattle.refine.specs.Signatures.{signed, Alike, weighed, weight_of, Weighs, Signed, passes}
 use Rattle.refine.specs.declared.marks.Marks.{Marks}
 use Rattle.refine.proofs.Coding.{code_low, move_coded, coded_by, same_code, both, all_coded, coded_all}
 use Rattle.refine.proofs.Naming.{same_agree, agree_same, class_low}
@@ -85,45 +85,37 @@ module _ (m : Lts) (names : List ℕ) where
         agreeing (signed m names s i) (signed m names t i) (matched_covers s t h.0 i)
         (matched_covers t s (matched_wider m (λ u v. Agree m r v u) (Agree m r) (λ u v. agree_sym m r v u) t s h.1) i)
 
--- One move more is marked: n is its code, and `before` is whether it was marked.
-module _ (names : List ℕ) (ps : List (ℕ × ℕ)) (p : ℕ × ℕ) where
-  code_more : (i : ℕ) → coded names (ps ++ p ∷ []) i ≡ (coded names ps i || eqb (code_of names p) i)
-  code_more i = list_any-append (λ q. eqb (code_of names q) i) ps (p ∷ []) ∙ ap (λ b. coded names ps i || b) (or-false (eqb (code_of names p) i))
+-- What is marked and weighed stays small, and may have one move more: `before` is whether its code n was marked.
+module _ {names : List ℕ} {ps : List (ℕ × ℕ)} {old : Marks} {print : ℕ} (h : Signed names ps old print) where
+  pub signed_fits : (n : ℕ) → print + weight_of n ≤ 466201520111617
+  signed_fits n = omega (arith, h.weighs, weighed_most weight_of 4294967296 weight_most (coded names ps) 108545, weight_most n)
 
-  total_more : weighed weight_of (coded names ps) 108545 + cond (coded names ps (code_of names p)) 0 (weight_of (code_of names p)) ≡ weighed weight_of (coded names (ps ++ p ∷ [])) 108545
-  total_more =
-      weighed_more weight_of (coded names ps) (coded names (ps ++ p ∷ [])) (code_of names p) 108545 (code_low names p)
-      (λ i ne. sym (code_more i ∙ ap (λ b. coded names ps i || b) (ne_eqb (code_of names p) i (λ e. ne (sym e))) ∙ or-false (coded names ps i)))
-      (code_more (code_of names p) ∙ or_right (coded names ps (code_of names p)) (eqb (code_of names p) (code_of names p)) (eq-eqb (code_of names p) (code_of names p) refl))
+  pub signed_more :
+      (p : ℕ × ℕ) (n : ℕ) (new : Marks) (before : Bool) → n ≡ code_of names p → before ≡ marked old n
+      → ((i : ℕ) → marked new i ≡ (marked old i || eqb n i)) → (b : Bool) → before ≡ b → Signed names (ps ++ p ∷ []) new (print + cond b 0 (weight_of n))
+  signed_more p n new before e was more b q = record {
+    codes = λ i. more i ∙ ap₂ (λ b c. b || eqb c i) (h.codes i) e ∙ sym (code_more i);
+    weighs = ap₂ ◌+◌ h.weighs (ap₂ (λ b k. cond b 0 (weight_of k)) (sym q ∙ was ∙ h.codes n ∙ ap (coded names ps) e) e) ∙ total_more;
+  }
+    where
+      code_more : (i : ℕ) → coded names (ps ++ p ∷ []) i ≡ (coded names ps i || eqb (code_of names p) i)
+      code_more i = list_any-append (λ q. eqb (code_of names q) i) ps (p ∷ []) ∙ ap (λ b. coded names ps i || b) (or-false (eqb (code_of names p) i))
 
-  module _ (n print : ℕ) (old new : Marks) (before : Bool) (e : n ≡ code_of names p) (codes : (i : ℕ) → marked old i ≡ coded names ps i) (total : print ≡ weighed weight_of (coded names ps) 108545)
-      (was : before ≡ marked old n) (more : (i : ℕ) → marked new i ≡ (marked old i || eqb n i)) where
-    pub marked_more : (i : ℕ) → marked new i ≡ coded names (ps ++ p ∷ []) i
-    marked_more i = more i ∙ ap₂ (λ b c. b || eqb c i) (codes i) e ∙ sym (code_more i)
+      total_more : weighed weight_of (coded names ps) 108545 + cond (coded names ps (code_of names p)) 0 (weight_of (code_of names p)) ≡ weighed weight_of (coded names (ps ++ p ∷ [])) 108545
+      total_more =
+          weighed_more weight_of (coded names ps) (coded names (ps ++ p ∷ [])) (code_of names p) 108545 (code_low names p)
+          (λ i ne. sym (code_more i ∙ ap (λ b. coded names ps i || b) (ne_eqb (code_of names p) i (λ e. ne (sym e))) ∙ or-false (coded names ps i)))
+          (code_more (code_of names p) ∙ or_right (coded names ps (code_of names p)) (eqb (code_of names p) (code_of names p)) (eq-eqb (code_of names p) (code_of names p) refl))
 
-    share : (b : Bool) → before ≡ b → print + cond b 0 (weight_of n) ≡ weighed weight_of (coded names (ps ++ p ∷ [])) 108545
-    share b q =
-        let c : b ≡ coded names ps (code_of names p) = sym q ∙ was ∙ codes n ∙ ap (coded names ps) e in
-        ap₂ ◌+◌ total (ap₂ (λ b k. cond b 0 (weight_of k)) c e) ∙ total_more
-
-    pub weight_more : before ≡ false → print + weight_of n ≡ weighed weight_of (coded names (ps ++ p ∷ [])) 108545
-    weight_more = share false
-
-    pub weight_same : before ≡ true → print ≡ weighed weight_of (coded names (ps ++ p ∷ [])) 108545
-    weight_same q = omega (arith, share true q)
-
-    pub weight_fits : print + weight_of n ≤ 466201520111617
-    weight_fits = omega (arith, total, weighed_most weight_of 4294967296 weight_most (coded names ps) 108545, weight_most n)
-
--- Where the signature of s is marked and has the weight p, t passes just where the two are alike.
+-- Where the signature of s is marked and weighed, t passes just where the two are alike.
 pub tells :
-    (m : Lts) (names : List ℕ) (s t p q : ℕ) (marks : Marks) → Marked m names s marks → Weighs m names s p → Weighs m names t q
+    (m : Lts) (names : List ℕ) (s t p q : ℕ) (marks : Marks) → Signed names (moves (m.ways s)) marks p → Weighs m names t q
     → Decides (passes m names marks p t q) (Alike m names s t)
-tells m names s t p q marks h x y = (
+tells m names s t p q marks h y = (
   λ e.
       let b = both (eqb q p) (list_all (λ x. marked marks (code_of names x)) (moves (m.ways t))) e in
-      weights_tell m names s t p q x y (eqb-true q p b.0) (λ i k. sym (h i) ∙ all_coded names (marked marks) (moves (m.ways t)) b.1 i k),
+      weights_tell m names s t p q h.weighs y (eqb-true q p b.0) (λ i k. sym (h.codes i) ∙ all_coded names (marked marks) (moves (m.ways t)) b.1 i k),
   λ like.
-      and_from (eqb q p) (list_all (λ x. marked marks (code_of names x)) (moves (m.ways t))) (eq-eqb q p (alike_weights m names s t p q x y like))
-      (coded_all names (marked marks) (moves (m.ways t)) (λ i k. h i ∙ like i ∙ k)),
+      and_from (eqb q p) (list_all (λ x. marked marks (code_of names x)) (moves (m.ways t))) (eq-eqb q p (alike_weights m names s t p q h.weighs y like))
+      (coded_all names (marked marks) (moves (m.ways t)) (λ i k. h.codes i ∙ like i ∙ k)),
 )

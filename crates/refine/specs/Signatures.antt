@@ -15,10 +15,6 @@ signed m names s = coded names (moves (m.ways s))
 abbrev pub Alike : Lts → List ℕ → ℕ → ℕ → Type 0
 Alike m names s t = (i : ℕ) → signed m names s i ≡ signed m names t i
 
--- The codes that are marked are the signature of s.
-abbrev pub Marked : Lts → List ℕ → ℕ → Marks → Type 0
-Marked m names s marks = (i : ℕ) → marked marks i ≡ signed m names s i
-
 -- The sum of the weights of the numbers below n that pass the test.
 unfoldable pub weighed : (ℕ → ℕ) → (ℕ → Bool) → ℕ → ℕ
 weighed weight test zero = 0
@@ -31,6 +27,11 @@ weight_of n = let x = (n * 2654435761 + 40503) % 4294967291 in (x * x) % 4294967
 -- The signature of s has this weight.
 abbrev pub Weighs : Lts → List ℕ → ℕ → ℕ → Type 0
 Weighs m names s weight = weight ≡ weighed weight_of (signed m names s) 108545
+
+-- The codes of these moves are marked, and no others, and they have this weight.
+pub record Signed (names : List ℕ) (ps : List (ℕ × ℕ)) (marks : Marks) (weight : ℕ) : Type 0 where
+  pub codes : (i : ℕ) → marked marks i ≡ coded names ps i
+  pub weighs : weight ≡ weighed weight_of (coded names ps) 108545
 
 -- Whether the weight of t is the one sought, and each code of t is marked.
 abbrev pub passes : Lts → List ℕ → Marks → ℕ → ℕ → ℕ → Bool

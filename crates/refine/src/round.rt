@@ -2,7 +2,8 @@
 ghost use Rattle.std.specs.Prelude.{◌≡◌, ℕ, suc, ◌+◌, ◌<◌, ◌≤◌, slice_index};
 ghost use Rattle.arrayvec.specs.ArrayVec.{array_vec_len};
 ghost use Rattle.refine.specs.Classes.{Names, parting_at};
-ghost use Rattle.refine.specs.Signatures.{Marked, Weighs};
+ghost use Rattle.refine.specs.Codes.{moves};
+ghost use Rattle.refine.specs.Signatures.{Signed};
 ghost use Rattle.refine.specs.Rounds.{Placed, Entered};
 
 use crate::classes::Parting;
@@ -47,8 +48,7 @@ impl<'a, G: Graph> Level<'a, G> {
     fn find(&self, state: u16, print: u64, marks: &Marks, round: &Round) -> u16
         requires state { state < (G.Graph.means self.now.graph.now).states }
         requires placed { Placed (G.Graph.means self.now.graph.now) self.now.depth self.now.names state round.now }
-        requires marked { Marked (G.Graph.means self.now.graph.now) self.now.names state marks.now }
-        requires weighs { Weighs (G.Graph.means self.now.graph.now) self.now.names state print }
+        requires signed { Signed self.now.names (moves ((G.Graph.means self.now.graph.now).ways state)) marks.now print }
         ensures { Names (G.Graph.means self.now.graph.now) (suc self.now.depth) state result }
     {
         let class = self.names[usize::from(state)];

@@ -3,7 +3,7 @@ ghost use Rattle.std.specs.Prelude.{◌≡◌};
 ghost use Rattle.std.specs.List.{list_all};
 ghost use Rattle.refine.specs.Codes.{code_of, moves};
 ghost use Rattle.refine.specs.Marks.{marked};
-ghost use Rattle.refine.specs.Signatures.{weight_of, Marked, Weighs, passes};
+ghost use Rattle.refine.specs.Signatures.{weight_of, Signed, passes};
 
 use crate::codes::Code;
 use crate::level::Level;
@@ -24,8 +24,7 @@ impl Code {
 impl<'a, G: Graph> Level<'a, G> {
     // Marks the signature of the state, and weighs it.
     pub(crate) fn sign(&self, state: u16, marks: &mut Marks) -> u64
-        ensures marked { Marked (G.Graph.means self.now.graph.now) self.now.names state marks.new }
-        ensures weighs { Weighs (G.Graph.means self.now.graph.now) self.now.names state result }
+        ensures { Signed self.now.names (moves ((G.Graph.means self.now.graph.now).ways state)) marks.new result }
     {
         marks.clear();
         let mut print = 0;

@@ -26,7 +26,7 @@ returns-then-class-state g c =
       | then-class-state-via-then-class-state w ↦ subst (λ v. Names m (suc r) v u) w.if-class-state.true named
       | then-class-state-via-else-class-state+then-same w ↦
           let lower : u < s = omega (arith, class_low m r level.names classed s c.requires.state, w.if-class-state.false, same) in
-          let told = tells m level.names s u c.args.print w.weight.result c.args.marks.now c.requires.marked c.requires.weighs (w.weight.ensures ∙ c.requires.placed.weighs u lower) in
+          let told = tells m level.names s u c.args.print w.weight.result c.args.marks.now c.requires.signed (w.weight.ensures ∙ c.requires.placed.weighs u lower) in
           alike_names m wide r level.names classed s u named (told.0 (sym w.same.ensures ∙ w.if-same.true))
     ]
 
@@ -43,10 +43,10 @@ returns g c =
     let u = get_or names c.from.result 0 in
     let same : u ≡ get_or names s 0 = ap (λ i. get_or names i 0) c.from.ensures in
     let lower : u < s = omega (arith, class_low m r names classed s c.requires.state, c.if-class-state.false, same) in
-    let told = tells m names s u c.args.print c.weight.result c.args.marks.now c.requires.marked c.requires.weighs (c.weight.ensures ∙ c.requires.placed.weighs u lower) in
+    let told = tells m names s u c.args.print c.weight.result c.args.marks.now c.requires.signed (c.weight.ensures ∙ c.requires.placed.weighs u lower) in
     let apart : ¬ Alike m names s (get_or names s 0) = subst (λ u. ¬ Alike m names s u) same (λ a. true≢false (sym (told.1 a) ∙ sym c.same.ensures ∙ c.if-same.false)) in
     let test = λ (u : ℕ). passes m names c.args.marks.now c.args.print u (get_or w.weights u 0) in
     let found = first_from_find c.find.new.self _ c.find.result (λ u. test u ≡ true) (λ u. test u ≡ false) c.find.ensures.ran
     (YieldsList-from_copied (YieldsList-at c.copied.ensures.source (YieldsList-from_slice w.fresh.items cc))) (λ x q k. search rules) (λ x q k. search rules) in
     subst (Names m (suc r) s) (sym c.unwrap_or.ensures)
-    (found_names m wide r names classed s w c.requires.placed c.requires.state apart c.args.print c.args.marks.now c.requires.marked c.requires.weighs c.find.result found)
+    (found_names m wide r names classed s w c.requires.placed c.requires.state apart c.args.print c.args.marks.now c.requires.signed c.find.result found)
