@@ -1,9 +1,10 @@
 -- Numbers of states in decimal. Assumes nothing.
-use Rattle.std.proofs.Common.{◌≡◌, ℕ, ◌+◌, ◌-◌, ◌*◌, ◌^◌, ◌<◌, ◌≤◌, true, false, ◌⊎◌, ◌↔◌, List, [], ◌∷◌, length, get_or, drop, Some, None, decimal, Option, sym, ap, ◌∙◌, subst, inl, inr, ⊎_elim, arith, rules, MatchOption}
+use Rattle.std.proofs.Common.{◌≡◌, ℕ, ◌+◌, ◌-◌, ◌*◌, ◌^◌, ◌<◌, ◌≤◌, true, ◌↔◌, List, [], ◌∷◌, length, get_or, drop, Some, None, decimal, Option, sym, ap, ◌∙◌, subst, ⊎_elim, arith, rules, MatchOption}
 use Rattle.std.specs.Option.{option_map}
+use Rattle.std.specs.Char.{is_ascii_digit}
 use Rattle.std.specs.Str.{all_ascii_digits}
 use Rattle.std.proofs.lemmas.List.{at_drop_more}
-use Rattle.std.proofs.lemmas.Bool.{le-leb, lt-leb, cases_eq}
+use Rattle.std.proofs.lemmas.Bool.{and_parts, cases_eq}
 use Rattle.std.proofs.lemmas.Str.Parse.{IsNumeralModel, numerals_by_fold, tells_all_ascii_digits}
 use Rattle.std.proofs.lemmas.Fmt.{decimal_digit, decimal_nonempty, first_decimal, digits_decimal, digits_value-decimal, decimal-digits_value}
 use Rattle.rows.specs.Digits.{value_from, Small, Unpadded}
@@ -14,24 +15,15 @@ use Rattle.rows.specs.declared.state.State.{State}
 own : IsNumeralModel (λ ds. all_ascii_digits ds ≡ true) (value_from 0)
 own = numerals_by_fold _ tells_all_ascii_digits value_from (search rules)
 
--- How digits are read, one after the other.
-module _ (s : List ℕ) (i n : ℕ) (inside : i < length s) where
-  pub digit_more : (m : ℕ) → 48 ≤ get_or s i 0 → get_or s i 0 ≤ 57 → m ≡ n * 10 + (get_or s i 0 - 48) → (all_ascii_digits (drop i s) ≡ all_ascii_digits (drop (i + 1) s)) × (value_from n (drop i s) ≡ value_from m (drop (i + 1) s))
-  digit_more m low high e = (
-    at_drop_more all_ascii_digits s i 0 inside ∙ rw (le-leb _ _ low, le-leb _ _ high),
-    at_drop_more (value_from n) s i 0 inside ∙ ap (λ k. value_from k (drop (i + 1) s)) (sym e),
-  )
-
-  pub no_digit : (get_or s i 0 < 48) ⊎ ((48 ≤ get_or s i 0) × (57 < get_or s i 0)) → all_ascii_digits (drop i s) ≡ false
-  no_digit (inl low) = at_drop_more all_ascii_digits s i 0 inside ∙ rw (lt-leb _ _ low)
-  no_digit (inr high) = at_drop_more all_ascii_digits s i 0 inside ∙ rw (le-leb _ _ high.0, lt-leb _ _ high.1)
-
 grows : (n : ℕ) (bs : List ℕ) → n ≤ value_from n bs
 grows n [] = omega arith
 grows n (b ∷ bs) = omega (arith, grows (n * 10 + (b - 48)) bs)
 
-pub grows_past : (n : ℕ) (bs : List ℕ) → 1024 ≤ n → 1024 ≤ value_from n bs
-grows_past n bs h = omega (arith, grows n bs)
+-- Where the digit at i is one too many for a state, so is the number.
+pub too_large : (s : List ℕ) (i n : ℕ) → i < length s → all_ascii_digits (drop i s) ≡ true → (is_ascii_digit (get_or s i 0) ≡ true → 1024 ≤ n * 10 + (get_or s i 0 - 48)) → 1024 ≤ value_from n (drop i s)
+too_large s i n inside digits large =
+    let here = large (and_parts _ _ (sym (at_drop_more all_ascii_digits s i 0 inside) ∙ digits)).0 in
+    rw (at_drop_more (value_from n) s i 0 inside) (omega (arith, here, grows (n * 10 + (get_or s i 0 - 48)) (drop (i + 1) s)))
 
 -- What the text of a number is.
 pub written : (f : List ℕ) (n : ℕ) → IsState f n → Small f n × Unpadded f

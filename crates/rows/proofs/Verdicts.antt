@@ -1,5 +1,7 @@
 -- A sheet has one verdict only: its lines are read in order, and each of them leads to one stage only. Assumes nothing.
 use Rattle.std.proofs.Common.{◌≡◌, ℕ, suc, ◌+◌, ◌<◌, ◌≤◌, true, false, ◌⊎◌, List, [], ◌∷◌, ◌++◌, length, sym, refl, ap, ◌∙◌, subst, inl, inr, ⊎_elim, append_assoc, append-nil, arith, length-append}
+use mathlib.Core.HLevel.{is_prop→PathP}
+use Rattle.std.proofs.Math.Bridge.{le_prop}
 use Rattle.std.proofs.lemmas.Fmt.{decimal_injective}
 use Rattle.std.proofs.lemmas.Bool.{both_ways, cases_Bool}
 use Rattle.actions.proofs.Texts.{text_once}
@@ -35,7 +37,7 @@ header_once fs c d h k =
     let from : c.from ≡ d.from = place_once fs _ c.from d.from h.from k.from in
     let act : c.act ≡ d.act = place_once fs _ c.act d.act h.act k.act in
     let to : c.to ≡ d.to = place_once fs _ c.to d.to h.to k.to in
-    λ i. record { width = width i; from = from i; act = act i; to = to i }
+    λ i. record { width = width i; from = from i; act = act i; to = to i; few = is_prop→PathP (λ j. width j ≤ 8) (λ j. le_prop) c.few d.few i }
 
 state_once : (f : List ℕ) → AtMostOne (IsState f)
 state_once f m n a b = decimal_injective m n (omega arith) (omega arith) (sym a.1 ∙ b.1)

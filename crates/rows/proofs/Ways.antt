@@ -1,5 +1,6 @@
 -- What each line of a sheet adds to what is read. Assumes nothing.
-use Rattle.std.proofs.Common.{◌≡◌, ℕ, suc, ◌<◌, ◌≤◌, Bool, true, false, List, [], ◌∷◌, ◌++◌, map, length, get_or, None, Ok, Err, sym, refl, ap, ◌∙◌, subst, arith, length-drop, Bor}
+use Rattle.std.proofs.Common.{◌≡◌, ℕ, Bool, true, false, List, [], ◌∷◌, ◌++◌, map, length, get_or, Option, Some, None, Ok, Err, sym, refl, ◌∙◌, subst, arith, Bor, MatchOption}
+use Rattle.std.specs.Option.{ok_or}
 use Rattle.std.proofs.lemmas.List.{map_push, length-map, length_push}
 use Rattle.std.proofs.lemmas.Bool.{both_ways, or_from, or_left, or_right, not_from_true, not_from_false}
 use Rattle.sheet.specs.Lines.{lines_of, is_remark, blanks}
@@ -12,7 +13,7 @@ use Rattle.sheet.proofs.Splitting.{lines_are_found}
 use Rattle.rows.specs.Fields.{fields_of}
 use Rattle.rows.specs.Format.{IsHeader, skipped, Table}
 use Rattle.rows.specs.Held.{transition_of}
-use Rattle.rows.specs.Reading.{RowRead, Gone, Begun}
+use Rattle.rows.specs.Reading.{RowRead, Gone, Begun, HeaderRead}
 use Rattle.rows.specs.Verdict.{AllSkipped, LineAt, RowAt, Refused, Accepted}
 use Rattle.rows.specs.declared.columns.Columns.{Columns}
 use Rattle.rows.specs.declared.refusal.Refusal.{Refusal}
@@ -37,9 +38,6 @@ abbrev current : Reader → List ℕ
 current a = get_or (unread a) (blanks (unread a)) []
 
 module _ (a b : Reader) (given : Numbered) (gives : Gives a (blanks (unread a)) given b) where
-  pub fewer : length (unread b) < length (unread a)
-  fewer = omega (arith, ap length gives.left, length-drop (suc (blanks (unread a))) (unread a), gives.there)
-
   pub still_headed : a.headed ≡ true → b.headed ≡ true
   still_headed headed = gives.headed ∙ or_left _ _ headed
 
@@ -62,20 +60,18 @@ module _ (a b : Reader) (given : Numbered) (gives : Gives a (blanks (unread a)) 
     held : (is_remark (current a) ≡ false) × (a.headed ≡ false) × (part.now ≡ current a)
     held = subst (Holds a.headed (current a)) header gives.holds
 
-    pub header_found : (s : List ℕ) (c : Columns) → Gone s a AllSkipped → IsHeader (fields_of part.now) c → Begun s b c [] × (c.width ≤ 8) × (b.headed ≡ true)
-    header_found s c gone header_is =
+    -- what the header says, or that it is none
+    pub header_read : (s : List ℕ) → Gone s a AllSkipped → (c : Option Columns) → MatchOption c ((c : Columns) → IsHeader (fields_of part.now) c → ⊥) (IsHeader (fields_of part.now)) → HeaderRead s b (ok_or c (BadHeader given.number))
+    header_read s gone None none =
+        let at = next s AllSkipped skips_keep a b given gone gives in
+        (fields_of (current a), line_at s (current a) _ b AllSkipped at (told false held.0), λ c fine. none c (subst (λ x. IsHeader (fields_of x) c) (sym held.2) fine))
+    header_read s gone (Some c) header_is =
         let at = next s AllSkipped skips_keep a b given gone gives in
         let fine = subst (λ x. IsHeader (fields_of x) c) held.2 header_is in
         let table = table_begins c (current a) at.mid (told false held.0) (fields_are_found (current a)).0 fine at.such in (
           (gone_on s (current a) _ b AllSkipped at (λ ls. Table c ls []) table, omega arith),
-          omega (arith, header_is.few, header_is.width),
           gives.headed ∙ or_right _ _ (not_from_false _ held.0),
         )
-
-    pub header_bad : (s : List ℕ) → Gone s a AllSkipped → ((c : Columns) → IsHeader (fields_of part.now) c → ⊥) → Refused s (BadHeader given.number)
-    header_bad s gone none =
-        let at = next s AllSkipped skips_keep a b given gone gives in
-        (fields_of (current a), line_at s (current a) _ b AllSkipped at (told false held.0), λ c fine. none c (subst (λ x. IsHeader (fields_of x) c) (sym held.2) fine))
 
   -- Behind the header, with these rows read.
   module _ (c : Columns) (rows : List Row) (s : List ℕ) (begun : Begun s a c rows) where

@@ -1,7 +1,7 @@
 -- The fields of a line. Assumes nothing.
-use Rattle.std.specs.Prelude.{◌≡◌, ℕ, cond, List, [], ◌∷◌, ◌++◌, ◌==◌}
+use Rattle.std.specs.Prelude.{◌≡◌, ℕ, List, [], ◌∷◌, ◌++◌, ◌==◌}
+use Rattle.std.specs.List.{slice_split}
 use Rattle.sheet.specs.Parts.{Lacks}
-use Rattle.sheet.specs.Lines.{onto}
 
 -- The line is these fields, with a comma (byte 44) between each two.
 pub data Fields : List ℕ → List (List ℕ) → Type 0 where
@@ -10,8 +10,7 @@ pub data Fields : List ℕ → List (List ℕ) → Type 0 where
 
 -- The same fields by a function.
 abbrev pub fields_of : List ℕ → List (List ℕ)
-fields_of [] = [] ∷ []
-fields_of (b ∷ bs) = cond (b == 44) ([] ∷ fields_of bs) (onto b (fields_of bs))
+fields_of l = slice_split (λ b. b == 44) l
 
 -- Every line has fields, and only these.
 abbrev pub FieldsAreFound : Type 0

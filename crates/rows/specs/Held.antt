@@ -1,5 +1,5 @@
 -- What the values of the reader stand for. Assumes nothing.
-use Rattle.std.specs.Prelude.{◌≡◌, ℕ, ◌<◌, ◌≤◌, List, [], map, length, take, Some, None, Option, ◌≢◌, slice_index_or}
+use Rattle.std.specs.Prelude.{◌≡◌, ℕ, List, map, length, Some, None, Option}
 use Rattle.actions.specs.Actions.{number_of}
 use Rattle.rows.specs.Format.{Transition, IsRow}
 use Rattle.rows.specs.declared.columns.Columns.{Columns}
@@ -13,13 +13,7 @@ state_number s = s.number
 
 -- The fields, in order.
 abbrev pub held : Fields → List (List ℕ)
-held f = map (λ part. part.now) (take f.count f.parts)
-
--- r is the first place from `from` on at which the name stands, or the length where it stands at none.
-pub record NextNamed (fs : List (List ℕ)) (name : List ℕ) (from r : ℕ) : Type 0 where
-  pub bound : r ≤ length fs
-  pub before : (j : ℕ) → from ≤ j → j < r → slice_index_or fs j [] ≢ name
-  pub there : r < length fs → (from ≤ r) × (slice_index_or fs r [] ≡ name)
+held f = map (λ part. part.now) f.parts.items
 
 -- What a row says.
 abbrev pub transition_of : Row → Transition

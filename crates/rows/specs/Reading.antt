@@ -34,7 +34,7 @@ Begun s a c rows = Gone s a (λ before. Table c before (map transition_of rows))
 
 -- The header is found: the lines read end with it. Or a refusal is due.
 abbrev pub HeaderRead : List ℕ → Lines → Result Columns Refusal → Type 0
-HeaderRead s a (Ok c) = Begun s a c [] × (c.width ≤ 8) × (a.headed ≡ true)
+HeaderRead s a (Ok c) = Begun s a c [] × (a.headed ≡ true)
 HeaderRead s a (Err e) = Refused s e
 
 -- The whole sheet is read, or a refusal is due.

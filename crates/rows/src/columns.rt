@@ -1,4 +1,5 @@
 // What the header of a table says.
+ghost use Rattle.std.specs.Prelude.{◌≤◌};
 
 // How many fields a row has, and which of them, counted from 0, are from, act and to.
 #[derive(Clone, Copy)]
@@ -7,4 +8,5 @@ pub struct Columns {
     pub from: usize,
     pub act: usize,
     pub to: usize,
+    ghost few: { width ≤ 8 },
 }

@@ -1,8 +1,8 @@
 // The fields of a line, as parts of the sheet.
+use arrayvec::ArrayVec;
 
 // At most 8 fields, in order.
-#[derive(Clone, Copy)]
+#[derive(Drop)]
 pub struct Fields<'a> {
-    pub(crate) parts: [&'a [u8]; 8],
-    pub(crate) count: usize,
+    pub(crate) parts: ArrayVec<&'a [u8], 8>,
 }

@@ -1,5 +1,6 @@
 // The numbers of states, read from their text.
-ghost use Rattle.std.specs.Prelude.{◌≡◌, ℕ, ◌+◌, ◌-◌, ◌*◌, ◌<◌, ◌≤◌, ◌↔◌, Some, MatchBool, MatchOption};
+ghost use Rattle.std.specs.Prelude.{◌≡◌, ℕ, true, ◌+◌, ◌-◌, ◌*◌, ◌<◌, ◌≤◌, ◌↔◌, Some, MatchBool, MatchOption};
+ghost use Rattle.std.specs.Char.{is_ascii_digit};
 ghost use Rattle.std.specs.Option.{option_map};
 ghost use Rattle.rows.specs.Digits.{Small, Unpadded};
 ghost use Rattle.rows.specs.Format.{IsState};
@@ -33,20 +34,17 @@ impl From<State> for u16 {
 fn unpadded(field: &[u8]) -> bool
     ensures { MatchBool result (Unpadded field.now) (Unpadded field.now → ⊥) }
 {
-    match field {
-        [] => false,
-        [b'0', _, ..] => false,
-        _ => true,
-    }
+    !matches!(field, [] | [b'0', _, ..])
 }
 
-// The number with one digit more behind it; none where no state has it.
+// The number with one digit more behind it; none where the byte is no digit, or no state has the number.
 fn one_more(number: u16, digit: u8) -> Option<u16>
-    requires number { number < 1024 }
-    requires low { 48 ≤ digit }
-    requires high { digit ≤ 57 }
-    ensures { MatchOption result (1024 ≤ number * 10 + (digit - 48)) (λ m. (m ≡ number * 10 + (digit - 48)) × (m < 1024)) }
+    requires { number < 1024 }
+    ensures { MatchOption result (is_ascii_digit digit ≡ true → 1024 ≤ number * 10 + (digit - 48)) (λ m. (is_ascii_digit digit ≡ true) × (m ≡ number * 10 + (digit - 48)) × (m < 1024)) }
 {
+    if !digit.is_ascii_digit() {
+        return None;
+    }
     let next = number * 10 + u16::from(digit - b'0');
     if next >= STATES {
         return None;
@@ -58,15 +56,9 @@ fn one_more(number: u16, digit: u8) -> Option<u16>
 fn digits(field: &[u8]) -> Option<State>
     ensures { MatchOption result ((n : ℕ) → Small field.now n → ⊥) (λ s. Small field.now s.number) }
 {
-    let mut number: u16 = 0;
+    let mut number = 0;
     for b in field {
-        if *b < b'0' || *b > b'9' {
-            return None;
-        }
-        let Some(next) = one_more(number, *b) else {
-            return None;
-        };
-        number = next;
+        number = one_more(number, *b)?;
     }
     Some(State { number })
 }

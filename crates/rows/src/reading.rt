@@ -31,18 +31,13 @@ fn row_of(columns: Columns, fields: &Fields) -> Option<Row>
 
 // The row of a line, behind `count` rows.
 fn read_row(columns: Columns, line: &[u8], number: usize, count: usize) -> Result<Row, Refusal>
-    requires { columns.width ≤ 8 }
     ensures { RowRead columns line.now number count result }
 {
-    let Some(fields) = Fields::split(line) else {
-        return Err(Refusal::Width(number));
-    };
+    let fields = Fields::split(line).ok_or(Refusal::Width(number))?;
     if fields.len() != columns.width {
         return Err(Refusal::Width(number));
     }
-    let Some(row) = row_of(columns, &fields) else {
-        return Err(Refusal::BadField(number));
-    };
+    let row = row_of(columns, &fields).ok_or(Refusal::BadField(number))?;
     if count >= MOST_ROWS {
         return Err(Refusal::TooMany(number));
     }
@@ -54,29 +49,22 @@ fn find_header(lines: &mut Lines) -> Result<Columns, Refusal>
     requires { lines.old.headed ≡ false }
     ensures { (s : List ℕ) → Gone s lines.old AllSkipped → HeaderRead s lines.new result }
 {
-    while let Some(next) = lines.next_line() {
+    while let Some(next) = lines.next() {
         if let Line::Header(line) = next.line {
-            return match read_header(line) {
-                Some(columns) => Ok(columns),
-                None => Err(Refusal::BadHeader(next.number)),
-            };
+            return read_header(line).ok_or(Refusal::BadHeader(next.number));
         }
     }
     Err(Refusal::NoHeader)
 }
 
 // The rows behind the header.
-fn read_rows(lines: &mut Lines, columns: Columns, rows: &mut Rows) -> Result<(), Refusal>
-    requires headed { lines.old.headed ≡ true }
-    requires width { columns.width ≤ 8 }
-    ensures { (s : List ℕ) → Begun s lines.old columns rows.old.items.items → RowsRead s rows.new.items.items result }
+fn read_rows(lines: Lines, columns: Columns, rows: &mut Rows) -> Result<(), Refusal>
+    requires { lines.headed ≡ true }
+    ensures { (s : List ℕ) → Begun s lines.entry columns rows.old.items.items → RowsRead s rows.new.items.items result }
 {
-    while let Some(next) = lines.next_line() {
+    for next in lines {
         if let Line::Row(line) = next.line {
-            let row = match read_row(columns, line, next.number, rows.items.len()) {
-                Ok(row) => row,
-                Err(e) => return Err(e),
-            };
+            let row = read_row(columns, line, next.number, rows.items.len())?;
             rows.items.push_reserved(row);
         }
     }
@@ -89,11 +77,8 @@ fn read_sheet(sheet: &[u8], rows: &mut Rows) -> Result<(), Refusal>
     ensures { RowsRead sheet.now rows.new.items.items result }
 {
     let mut lines = Lines::new(sheet);
-    let columns = match find_header(&mut lines) {
-        Ok(columns) => columns,
-        Err(e) => return Err(e),
-    };
-    read_rows(&mut lines, columns, rows)
+    let columns = find_header(&mut lines)?;
+    read_rows(lines, columns, rows)
 }
 
 // Each sheet is a table of one list of rows, or is refused in one way.
@@ -123,12 +108,10 @@ impl Rows {
         ensures { Answered sheet.now (transitions self.new) result }
     {
         self.items.clear();
-        match read_sheet(sheet, self) {
-            Ok(()) => Ok(()),
-            Err(e) => {
-                self.items.clear();
-                Err(e)
-            }
+        let read = read_sheet(sheet, self);
+        if read.is_err() {
+            self.items.clear();
         }
+        read
     }
 }

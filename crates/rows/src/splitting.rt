@@ -1,31 +1,30 @@
 // How a line is cut into its fields.
-ghost use Rattle.std.specs.Prelude.{◌≡◌, ℕ, ◌<◌, ◌≤◌, [], length, MatchOption, slice_index_or};
+ghost use Rattle.std.specs.Prelude.{◌≡◌, ℕ, ◌<◌, ◌≤◌, [], length, ◌==◌, MatchOption, slice_index_or};
+ghost use Rattle.std.specs.List.{position};
+ghost use Rattle.std.specs.Cmp.Lexicographic.{pointwise};
 ghost use Rattle.rows.specs.Fields.{fields_of};
 ghost use Rattle.rows.specs.Format.{Once};
-ghost use Rattle.rows.specs.Held.{held, NextNamed};
+ghost use Rattle.rows.specs.Held.{held};
 
 use crate::fields::Fields;
+use arrayvec::ArrayVec;
 use sheet::cursor::Cursor;
 
-const MOST: usize = 8;
+const COMMA: u8 = b',';
 
 impl<'a> Fields<'a> {
     // The fields of a line; none where they are more than 8.
     pub(crate) fn split(line: &'a [u8]) -> Option<Fields<'a>>
         ensures { MatchOption result (8 < length (fields_of line.now)) (λ f. held f ≡ fields_of line.now) }
     {
-        let mut parts: [&'a [u8]; 8] = [line; 8];
+        let mut parts = ArrayVec::new();
         let mut cursor = Cursor::new(line);
-        for i in 0..MOST {
-            parts[i] = cursor.until(b',');
-            if !cursor.pass(b',') {
-                return Some(Fields {
-                    parts,
-                    count: i + 1,
-                });
+        loop {
+            parts.try_push(cursor.until(COMMA)).ok()?;
+            if !cursor.pass(COMMA) {
+                return Some(Fields { parts });
             }
         }
-        None
     }
 
     // How many there are.
@@ -33,38 +32,31 @@ impl<'a> Fields<'a> {
         ensures value { result ≡ length (held self.now) }
         ensures bound { result ≤ 8 }
     {
-        self.count.min(MOST)
+        self.parts.len()
     }
 
     // Field k, counted from 0, and no bytes where there is none.
     pub(crate) fn part(&self, k: usize) -> &'a [u8]
         ensures { result.now ≡ slice_index_or (held self.now) k [] }
     {
-        if k < self.len() { self.parts[k] } else { b"" }
-    }
-
-    // The first field from place `from` on that has the name, or the number of fields.
-    fn next_named(&self, name: &[u8], from: usize) -> usize
-        ensures { NextNamed (held self.now) name.now from result }
-    {
-        let count = self.len();
-        for k in from..count {
-            if self.part(k) == name {
-                return k;
-            }
-        }
-        count
+        self.parts.get(k).copied().unwrap_or_default()
     }
 
     // The field that alone has the name.
     pub(crate) fn only(&self, name: &[u8]) -> Option<usize>
         ensures { MatchOption result ((k : ℕ) → Once (held self.now) k name.now → ⊥) (λ k. Once (held self.now) k name.now) }
     {
-        let count = self.len();
-        let first = self.next_named(name, 0);
-        if first >= count || self.next_named(name, first + 1) < count {
+        let first = first_named(&self.parts, name)?;
+        if first_named(&self.parts[first + 1..], name).is_some() {
             return None;
         }
         Some(first)
     }
+}
+
+// The first of the fields that has the name.
+fn first_named(fields: &[&[u8]], name: &[u8]) -> Option<usize>
+    ensures { result ≡ position (λ field. pointwise ◌==◌ field.now name.now) fields.now }
+{
+    fields.iter().position(|field| *field == name)
 }

@@ -1,3 +1,2 @@
-pub mod Ends
 pub mod Splitting
-pub mod Passing
+pub mod Skipping

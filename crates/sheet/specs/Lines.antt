@@ -1,5 +1,6 @@
 -- The lines of a sheet. Assumes nothing.
 use Rattle.std.specs.Prelude.{◌≡◌, ℕ, suc, ◌≤◌, Bool, cond, List, [], ◌∷◌, ◌++◌, length, ◌==◌}
+use Rattle.std.specs.List.{onto_first}
 use Rattle.sheet.specs.Parts.{begins, Lacks}
 
 -- The text is these lines, each ended by byte 10, the last one by the end where it is not empty. A final byte 10 begins
@@ -10,13 +11,9 @@ pub data Lines : List ℕ → List (List ℕ) → Type 0 where
   more : {l s : List ℕ} {ls : List (List ℕ)} → Lacks 10 l → Lines s ls → Lines (l ++ 10 ∷ s) (l ∷ ls)
 
 -- The same lines by a function.
-abbrev pub onto : ℕ → List (List ℕ) → List (List ℕ)
-onto b [] = (b ∷ []) ∷ []
-onto b (l ∷ ls) = (b ∷ l) ∷ ls
-
 abbrev pub lines_of : List ℕ → List (List ℕ)
 lines_of [] = []
-lines_of (b ∷ bs) = cond (b == 10) ([] ∷ lines_of bs) (onto b (lines_of bs))
+lines_of (b ∷ bs) = cond (b == 10) ([] ∷ lines_of bs) (onto_first b (lines_of bs))
 
 -- Every text has lines, and only these.
 abbrev pub LinesAreFound : Type 0

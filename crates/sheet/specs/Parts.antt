@@ -1,10 +1,10 @@
 -- The parts of a text between marks. Assumes nothing.
-use Rattle.std.specs.Prelude.{ℕ, suc, Bool, true, false, cond, List, [], ◌∷◌, ◌==◌, ◌≢◌}
+use Rattle.std.specs.Prelude.{ℕ, Bool, true, false, List, [], ◌∷◌, ◌==◌, ◌≢◌}
+use Rattle.std.specs.List.{position_or_len}
 
 -- How many bytes stand before the first mark, or before the end where there is none.
 abbrev pub length_to : ℕ → List ℕ → ℕ
-length_to mark [] = 0
-length_to mark (b ∷ bs) = cond (b == mark) 0 (suc (length_to mark bs))
+length_to mark bs = position_or_len (λ b. b == mark) bs
 
 -- The text begins with the mark.
 abbrev pub begins : ℕ → List ℕ → Bool

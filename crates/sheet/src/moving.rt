@@ -1,6 +1,6 @@
 // How a cursor reads.
-ghost use Rattle.std.specs.Prelude.{◌≡◌, ◌+◌, ◌<◌, ◌≤◌, true, length, take, drop, ◌==◌, slice_index};
-ghost use Rattle.sheet.specs.Cursors.{bytes, place, rest};
+ghost use Rattle.std.specs.Prelude.{◌≡◌, ◌≤◌, length, take, ◌==◌, slice_get};
+ghost use Rattle.sheet.specs.Cursors.{bytes, place, rest, Moved};
 ghost use Rattle.sheet.specs.Parts.{length_to, begins, one};
 
 use crate::cursor::Cursor;
@@ -18,8 +18,7 @@ impl<'a> Cursor<'a> {
     pub fn place(&self) -> usize
         ensures { result ≡ place self.now }
     {
-        let Cursor { at, .. } = self;
-        *at
+        self.at
     }
 
     // All bytes are read.
@@ -29,64 +28,48 @@ impl<'a> Cursor<'a> {
         self.at == self.sheet.len()
     }
 
-    // The byte here, and 0 at the end.
-    pub fn peek(&self) -> u8
-        ensures { result ≡ slice_index (bytes self.now) (place self.now) }
+    // The bytes that are not read yet.
+    fn rest(&self) -> &'a [u8]
+        ensures { result.now ≡ rest self.now }
     {
-        if self.at < self.sheet.len() {
-            self.sheet[self.at]
-        } else {
-            0
-        }
+        &self.sheet[self.at..]
+    }
+
+    // The byte here; none at the end.
+    pub fn peek(&self) -> Option<u8>
+        ensures { result ≡ slice_get (bytes self.now) (place self.now) }
+    {
+        self.sheet.get(self.at).copied()
     }
 
     // Passes a mark where it stands here, and says whether it does.
     pub fn pass(&mut self, mark: u8) -> bool
         ensures value { result ≡ begins mark (rest self.old) }
-        ensures bytes { bytes self.new ≡ bytes self.old }
-        ensures place { place self.new ≡ place self.old + one result }
+        ensures on { Moved self.old (one result) self.new }
     {
-        if !stands(self.sheet, self.at, mark) {
-            return false;
+        let stands = self.rest().first() == Some(&mark);
+        if stands {
+            self.at += 1;
         }
-        self.at += 1;
-        true
+        stands
     }
 
     // The part up to the first such mark, or to the end; the cursor stays before the mark.
     pub fn until(&mut self, mark: u8) -> &'a [u8]
         ensures part { result.now ≡ take (length_to mark (rest self.old)) (rest self.old) }
-        ensures bytes { bytes self.new ≡ bytes self.old }
-        ensures place { place self.new ≡ place self.old + length_to mark (rest self.old) }
+        ensures on { Moved self.old (length_to mark (rest self.old)) self.new }
     {
-        let sheet = self.sheet;
-        let from = self.at;
-        let end = mark_or_end(sheet, from, mark);
-        self.at = end;
-        &sheet[from..end]
+        let rest = self.rest();
+        let end = end_of(rest, mark);
+        self.at += end;
+        &rest[..end]
     }
 }
 
-// The place of the first such mark from a place on, or the sheet's end.
-fn mark_or_end(sheet: &[u8], from: usize, mark: u8) -> usize
-    requires { from ≤ length sheet.now }
-    ensures value { result ≡ from + length_to mark (drop from sheet.now) }
-    ensures bound { result ≤ length sheet.now }
+// The place of the first such mark, or the end.
+fn end_of(text: &[u8], mark: u8) -> usize
+    ensures value { result ≡ length_to mark text.now }
+    ensures bound { result ≤ length text.now }
 {
-    let mut at = from;
-    while at < sheet.len() && sheet[at] != mark {
-        at += 1;
-    }
-    at
-}
-
-// Whether a mark stands at a place.
-fn stands(sheet: &[u8], at: usize, mark: u8) -> bool
-    ensures value { result ≡ begins mark (drop at sheet.now) }
-    ensures inside { result ≡ true → at < length sheet.now }
-{
-    if at >= sheet.len() {
-        return false;
-    }
-    sheet[at] == mark
+    text.iter().take_while(|b| **b != mark).count()
 }

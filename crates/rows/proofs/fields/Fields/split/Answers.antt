@@ -1,32 +1,23 @@
-use Rattle.std.proofs.Common.{[], drop, sym, refl, ap, ◌∙◌, append-nil, arith, length-set}
-use Rattle.sheet.specs.Cursors.{bytes, rest}
-use Rattle.rows.specs.Fields.{fields_of}
-use Rattle.rows.proofs.Cutting.{field_last, field_more, cut_more, too_many}
+use Rattle.std.proofs.Common.{rules, ◌≡◌, [], ◌∷◌, ◌++◌, length, sym, ap, ◌∙◌, append-nil, arith}
+use Rattle.rows.proofs.Cutting.{field_read, cut_more}
 use Rattle.rows.proofs.fields.Fields.split.Goals as goal
-
-pub loop-i-init : goal.loop-i-init
-loop-i-init c =
-    let new = c.new-cursor.ensures in
-    (refl, new.bytes, ap (λ n. fields_of (drop n (bytes c.new-cursor.result))) new.place ∙ ap fields_of new.bytes)
-
-pub loop-i-preserved : goal.loop-i-preserved
-loop-i-preserved c =
-    let inv = c.loop-i.invariant in
-    let until = c.until.ensures in
-    let pass = c.pass.ensures in
-    let cut = field_more c.loop-i.cursor c.until.new.self c.pass.new.self c.pass.result until.bytes until.place pass.value pass.bytes pass.place c.if-not-pass.false in (
-      simp length-set inv.0,
-      pass.bytes ∙ until.bytes ∙ inv.1,
-      cut_more c.loop-i.parts c.loop-i.i _ c.until.result _ _ (fields_of (rest c.pass.new.self)) (omega arith) until.part cut inv.2,
-    )
 
 pub returns-then-not-pass : goal.returns-then-not-pass
 returns-then-not-pass c =
-    let inv = c.loop-i.invariant in
-    let until = c.until.ensures in
-    let pass = c.pass.ensures in
-    let cut = field_last c.loop-i.cursor c.until.new.self c.pass.new.self c.pass.result until.bytes until.place pass.value pass.bytes pass.place c.if-not-pass.true in
-    sym (append-nil _) ∙ cut_more c.loop-i.parts c.loop-i.i _ c.until.result _ _ [] (omega arith) until.part cut inv.2
+    let pushed : c.try_push.new.self.items ≡ c.loop-cursor.parts.items ++ c.until.result ∷ [] = search rules in
+    let read = field_read c.loop-cursor.cursor c.until.new.self c.pass.new.self c.pass.result c.until.ensures.part c.until.ensures.on c.pass.ensures.value c.pass.ensures.on in
+    let last = rw c.if-not-pass.true at read in
+    sym (append-nil _) ∙ cut_more c.loop-cursor.parts.items c.until.result pushed last c.loop-cursor.invariant
 
-pub returns : goal.returns
-returns c = too_many c.loop-i.parts c.loop-i.i _ (rest c.loop-i.cursor) c.loop-i.invariant.0 c.loop-i-test.false c.loop-i.invariant.2
+pub loop-cursor-preserved : goal.loop-cursor-preserved
+loop-cursor-preserved c =
+    let pushed : c.try_push.new.self.items ≡ c.loop-cursor.parts.items ++ c.until.result ∷ [] = search rules in
+    let read = field_read c.loop-cursor.cursor c.until.new.self c.pass.new.self c.pass.result c.until.ensures.part c.until.ensures.on c.pass.ensures.value c.pass.ensures.on in
+    let more = rw c.if-not-pass.false at read in
+    cut_more c.loop-cursor.parts.items c.until.result pushed more c.loop-cursor.invariant
+
+pub loop-cursor-smaller : goal.loop-cursor-smaller
+loop-cursor-smaller c =
+    let read = field_read c.loop-cursor.cursor c.until.new.self c.pass.new.self c.pass.result c.until.ensures.part c.until.ensures.on c.pass.ensures.value c.pass.ensures.on in
+    let more = rw c.if-not-pass.false at read in
+    omega (arith, ap length more)
