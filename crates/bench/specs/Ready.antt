@@ -8,5 +8,5 @@ use Rattle.bench.specs.declared.inner.Inner.{Inner}
 
 -- The verdict of each entry at each state of the system, and the classes of its bisimilar states.
 pub record Ready (m : Lts) (es : List Entry) (inner : Inner) : Type 0 where
-  pub verdicts : Judged m es inner.words
+  pub verdicts : Judged m es inner.verdicts.words
   pub classes : Refined m inner.classes

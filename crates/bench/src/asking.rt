@@ -15,7 +15,6 @@ use lts::System;
 use pair::graph::Graph;
 use runs::searching::search;
 use telling::writing::tell;
-use verdicts::reading::holds;
 
 impl<L: System, R: System> SettledBench<L, R> {
     // Whether both are states of the bench.
@@ -44,7 +43,7 @@ impl<L: System, R: System> SettledBench<L, R> {
         if state >= self.pair.states() {
             return Err(RuleRefusal::NoState);
         }
-        Ok(holds(&self.inner.words, formula, state))
+        Ok(self.inner.verdicts.holds(formula, state))
     }
 
     // The fewest moves from the state to one where the formula holds, with the run in the path; none where no run
@@ -67,7 +66,7 @@ impl<L: System, R: System> SettledBench<L, R> {
         }
         search(
             &self.pair,
-            &self.inner.words,
+            &self.inner.verdicts,
             formula,
             state,
             &mut self.inner.distances,

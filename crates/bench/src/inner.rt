@@ -1,11 +1,12 @@
 // What a settled bench keeps.
 use refine::classes::Classes;
+use verdicts::words::Verdicts;
 
-// Word s has the verdicts at state s, one bit for each formula. The distances are for looking for runs, and mean
-// nothing between calls.
+// The verdict of each formula at each state, and the classes of the states. The distances are for looking for runs, and
+// mean nothing between calls.
 #[derive(Drop)]
 pub struct Inner {
-    pub(crate) words: [u128; 2048],
+    pub(crate) verdicts: Verdicts,
     pub(crate) classes: Classes,
-    pub(crate) distances: [u16; 2048],
+    pub(crate) distances: [Option<u16>; 2048],
 }

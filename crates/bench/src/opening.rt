@@ -15,7 +15,7 @@ use law::refusals::EnterRefusal;
 use lts::System;
 use pair::pair::Pair;
 use refine::refine;
-use verdicts::judging::judge;
+use verdicts::words::Verdicts;
 
 impl<L: System, R: System> OpenBench<L, R> {
     // A bench over two systems, with no entries.
@@ -55,13 +55,13 @@ impl<L: System, R: System> OpenBench<L, R> {
         ensures lawful { Settles L.System.means R.System.means self result }
     {
         let OpenBench { pair, held } = self;
-        let mut words = [0; 2048];
-        judge(&pair, held.as_slice(), &mut words);
+        let mut verdicts = Verdicts::new();
+        verdicts.judge(&pair, held.as_slice());
         let classes = refine(&pair);
         let inner = Inner {
-            words,
+            verdicts,
             classes,
-            distances: [0; 2048],
+            distances: [None; 2048],
         };
         SettledBench { pair, held, inner }
     }
