@@ -3,6 +3,7 @@ ghost use Rattle.std.specs.Prelude.{◌≡◌, ◌≤◌, [], length, IfOk, OnEr
 ghost use Rattle.files.specs.Refusals.{number_of};
 
 use crate::sheet_file::{FileRefusal, SheetFile};
+use bounded::Bounded;
 use std::alloc::{AllocError, Global};
 use std::error::Error;
 use std::fmt;
@@ -34,28 +35,19 @@ impl Error for FileRefusal {}
 impl SheetFile {
     // No bytes, with the memory for the largest sheet.
     pub fn new(heap: Global) -> Result<SheetFile, AllocError>
-        ensures { IfOk result (λ file. file.bytes.items ≡ []) }
+        ensures { IfOk result (λ file. file.bytes ≡ []) }
     {
-        let bytes = Vec::with_capacity(heap, MOST_BYTES)?;
-        Ok(SheetFile { bytes })
+        Ok(SheetFile {
+            bytes: Bounded::new(heap)?,
+        })
     }
 
     // The bytes read last.
     pub fn bytes(&self) -> &[u8]
-        ensures value { result.now ≡ self.now.bytes.items }
+        ensures value { result.now ≡ self.now.bytes }
         ensures bound { length result.now ≤ 16384 }
     {
         self.bytes.as_slice()
-    }
-
-    // Adds bytes behind those held.
-    fn add(&mut self, more: &[u8]) -> Result<(), FileRefusal> {
-        if more.len() > MOST_BYTES - self.bytes.len() {
-            return Err(FileRefusal::TooLarge);
-        }
-        // The room is there, so this takes no memory.
-        self.bytes.extend_from_slice(more).unwrap();
-        Ok(())
     }
 
     // Reads the rest of a file, as long as it fits. Each read but the last gives a byte.
@@ -67,14 +59,16 @@ impl SheetFile {
             if count == 0 {
                 return Ok(());
             }
-            self.add(&chunk[..count])?;
+            self.bytes
+                .extend_from_slice(&chunk[..count])
+                .map_err(|_| FileRefusal::TooLarge)?;
         }
         Err(FileRefusal::TooLarge)
     }
 
     // Reads a whole file in place of what was held; a refused file leaves no bytes.
     pub fn read(&mut self, rt: &HostRuntime, path: &str) -> Result<(), FileRefusal>
-        ensures { OnErr result (self.new.bytes.items ≡ []) }
+        ensures { OnErr result (self.new.bytes ≡ []) }
     {
         self.bytes.clear();
         let mut file = File::open(rt, path).map_err(|_| FileRefusal::Unreadable)?;

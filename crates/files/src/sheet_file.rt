@@ -1,12 +1,10 @@
 // The bytes of a file that holds a sheet.
-ghost use Rattle.std.specs.Prelude.{◌≤◌, vec_len, vec_capacity};
+use bounded::Bounded;
 
 // At most 16,384 bytes, with the memory for all of them.
 #[derive(Drop)]
 pub struct SheetFile {
-    pub(crate) bytes: Vec<u8>,
-    ghost reserved: { 16384 ≤ vec_capacity bytes },
-    ghost few: { vec_len bytes ≤ 16384 },
+    pub(crate) bytes: Bounded<u8, 16384>,
 }
 
 // Why a file is refused.
