@@ -90,17 +90,17 @@ module _ (a b : Reader) (given : Numbered) (gives : Gives a (blanks (unread a)) 
       row_held : (is_remark (current a) ≡ false) × (a.headed ≡ true) × (part.now ≡ current a)
       row_held = subst (Holds a.headed (current a)) row_Line gives.holds
 
-      pub row_read : (row : Row) → RowRead c part.now given.number (length rows) (Ok row) → Begun s b c (rows ++ row ∷ [])
-      row_read row read =
-          let fine = subst (λ x. RowRead c x given.number (length rows) (Ok row)) row_held.2 read in
+      pub row_read : (row : Row) (count : ℕ) → count ≡ length rows → RowRead c part.now given.number count (Ok row) → Begun s b c (rows ++ row ∷ [])
+      row_read row count long read =
+          let fine = subst (λ x. RowRead c x given.number count (Ok row)) row_held.2 read in
           let table = table_more c (current a) (told false row_held.0) (fields_are_found (current a)).0 fine.0 at.such in (
             gone_on s (current a) _ b Before at (λ ls. Table c ls (map transition_of (rows ++ row ∷ [])))
                 (subst (Table c (at.mid ++ current a ∷ [])) (sym (map_push transition_of rows row)) table),
             omega (arith, length_push rows row, fine.1),
           )
 
-      pub row_refused : (e : Refusal) → RowRead c part.now given.number (length rows) (Err e) → Refused s e
-      row_refused e read = due e (subst (λ x. RowRead c x given.number (length rows) (Err e)) row_held.2 read)
+      pub row_refused : (e : Refusal) (count : ℕ) → count ≡ length rows → RowRead c part.now given.number count (Err e) → Refused s e
+      row_refused e count long read = due e (subst (λ x. RowRead c x given.number count (Err e)) row_held.2 read)
         where
           few : length (map transition_of rows) ≡ length rows
           few = length-map rows transition_of
@@ -114,7 +114,7 @@ module _ (a b : Reader) (given : Numbered) (gives : Gives a (blanks (unread a)) 
           moved : (n : ℕ) → n ≡ given.number → RowAt s n c (map transition_of rows) (fields_of (current a))
           moved n same = subst (λ k. RowAt s k c (map transition_of rows) (fields_of (current a))) (sym same) there
 
-          due : (x : Refusal) → RowRead c (current a) given.number (length rows) (Err x) → Refused s x
+          due : (x : Refusal) → RowRead c (current a) given.number count (Err x) → Refused s x
           due NoHeader fine = absurd fine
           due (BadHeader n) fine = absurd fine
           due (Width n) fine = (c, map transition_of rows, fields_of (current a), moved n fine.0, fine.1)

@@ -46,10 +46,7 @@ fn one_more(number: u16, digit: u8) -> Option<u16>
         return None;
     }
     let next = number * 10 + u16::from(digit - b'0');
-    if next >= STATES {
-        return None;
-    }
-    Some(next)
+    (next < STATES).then_some(next)
 }
 
 // The state whose number is written by digits, of any length; zeros in front count for nothing.

@@ -7,7 +7,6 @@ ghost use Rattle.rows.specs.Verdict.{AllSkipped, OneVerdict};
 
 use crate::columns::Columns;
 use crate::fields::Fields;
-use crate::header::read_header;
 use crate::refusal::Refusal;
 use crate::row::Row;
 use crate::rows::Rows;
@@ -19,29 +18,31 @@ use std::alloc::{AllocError, Global};
 
 const MOST_ROWS: usize = 2048;
 
-// The row that the fields hold under these columns; none where one of them is bad.
-fn row_of(columns: Columns, fields: &Fields) -> Option<Row>
-    ensures { RowHeld columns (held fields.now) result }
-{
-    let from = State::read(fields.part(columns.from))?;
-    let action = Action::read(fields.part(columns.act))?;
-    let to = State::read(fields.part(columns.to))?;
-    Some(Row { from, action, to })
-}
+impl Columns {
+    // The row that the fields hold in these columns; none where one of them is bad.
+    fn row_of(self, fields: &Fields) -> Option<Row>
+        ensures { RowHeld self (held fields.now) result }
+    {
+        let from = State::read(fields.part(self.from))?;
+        let action = Action::read(fields.part(self.act))?;
+        let to = State::read(fields.part(self.to))?;
+        Some(Row { from, action, to })
+    }
 
-// The row of a line, behind `count` rows.
-fn read_row(columns: Columns, line: &[u8], number: usize, count: usize) -> Result<Row, Refusal>
-    ensures { RowRead columns line.now number count result }
-{
-    let fields = Fields::split(line).ok_or(Refusal::Width(number))?;
-    if fields.len() != columns.width {
-        return Err(Refusal::Width(number));
+    // The row of a line, behind `count` rows.
+    fn read_row(self, line: &[u8], number: usize, count: usize) -> Result<Row, Refusal>
+        ensures { RowRead self line.now number count result }
+    {
+        let fields = Fields::split(line).ok_or(Refusal::Width(number))?;
+        if fields.len() != self.width {
+            return Err(Refusal::Width(number));
+        }
+        let row = self.row_of(&fields).ok_or(Refusal::BadField(number))?;
+        if count >= MOST_ROWS {
+            return Err(Refusal::TooMany(number));
+        }
+        Ok(row)
     }
-    let row = row_of(columns, &fields).ok_or(Refusal::BadField(number))?;
-    if count >= MOST_ROWS {
-        return Err(Refusal::TooMany(number));
-    }
-    Ok(row)
 }
 
 // The columns of the first line that is neither empty nor a remark.
@@ -49,36 +50,13 @@ fn find_header(lines: &mut Lines) -> Result<Columns, Refusal>
     requires { lines.old.headed ≡ false }
     ensures { (s : List ℕ) → Gone s lines.old AllSkipped → HeaderRead s lines.new result }
 {
+    // `for` and `find_map` on a `&mut` iterator do not say what is left behind a return, or at none
     while let Some(next) = lines.next() {
         if let Line::Header(line) = next.line {
-            return read_header(line).ok_or(Refusal::BadHeader(next.number));
+            return Columns::read(line).ok_or(Refusal::BadHeader(next.number));
         }
     }
     Err(Refusal::NoHeader)
-}
-
-// The rows behind the header.
-fn read_rows(lines: Lines, columns: Columns, rows: &mut Rows) -> Result<(), Refusal>
-    requires { lines.headed ≡ true }
-    ensures { (s : List ℕ) → Begun s lines.entry columns rows.old.items.items → RowsRead s rows.new.items.items result }
-{
-    for next in lines {
-        if let Line::Row(line) = next.line {
-            let row = read_row(columns, line, next.number, rows.items.len())?;
-            rows.items.push_reserved(row);
-        }
-    }
-    Ok(())
-}
-
-// The header, and the rows behind it.
-fn read_sheet(sheet: &[u8], rows: &mut Rows) -> Result<(), Refusal>
-    requires { rows.old.items.items ≡ [] }
-    ensures { RowsRead sheet.now rows.new.items.items result }
-{
-    let mut lines = Lines::new(sheet);
-    let columns = find_header(&mut lines)?;
-    read_rows(lines, columns, rows)
 }
 
 // Each sheet is a table of one list of rows, or is refused in one way.
@@ -103,12 +81,36 @@ impl Rows {
         self.items.as_slice()
     }
 
+    // Adds the rows behind the header.
+    fn read_rows(&mut self, lines: Lines, columns: Columns) -> Result<(), Refusal>
+        requires { lines.headed ≡ true }
+        ensures { (s : List ℕ) → Begun s lines.entry columns self.old.items.items → RowsRead s self.new.items.items result }
+    {
+        for next in lines {
+            if let Line::Row(line) = next.line {
+                let row = columns.read_row(line, next.number, self.items.len())?;
+                self.items.push_reserved(row);
+            }
+        }
+        Ok(())
+    }
+
+    // Adds the rows of a sheet.
+    fn read_sheet(&mut self, sheet: &[u8]) -> Result<(), Refusal>
+        requires { self.old.items.items ≡ [] }
+        ensures { RowsRead sheet.now self.new.items.items result }
+    {
+        let mut lines = Lines::new(sheet);
+        let columns = find_header(&mut lines)?;
+        self.read_rows(lines, columns)
+    }
+
     // Reads the rows of a sheet in place of those held; a refused sheet leaves none. It allocates nothing.
     pub fn read(&mut self, sheet: &[u8]) -> Result<(), Refusal>
         ensures { Answered sheet.now (transitions self.new) result }
     {
         self.items.clear();
-        let read = read_sheet(sheet, self);
+        let read = self.read_sheet(sheet);
         if read.is_err() {
             self.items.clear();
         }

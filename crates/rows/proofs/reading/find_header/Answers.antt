@@ -4,7 +4,7 @@ use Rattle.rows.proofs.reading.find_header.Goals as goal
 pub returns-in-Header : goal.returns-in-Header
 returns-in-Header c = λ s gone.
     rw c.ok_or.ensures.value (header_read c.loop-next.lines c.next.new.self c.in-Some.next c.in-Some.ensures.steps
-    c.in-Header.line c.in-Header.is s (c.loop-next.invariant.1 s gone) c.read_header.result c.read_header.ensures)
+    c.in-Header.line c.in-Header.is s (c.loop-next.invariant.1 s gone) c.read.result c.read.ensures)
 
 pub loop-next-preserved : goal.loop-next-preserved
 loop-next-preserved c = (

@@ -1,6 +1,6 @@
 use Rattle.std.proofs.Common.{rules}
 use Rattle.rows.proofs.Ways.{none_gone}
-use Rattle.rows.proofs.reading.read_sheet.Goals as goal
+use Rattle.rows.proofs.rows.Rows.read_sheet.Goals as goal
 
 pub returns-in_err-columns : goal.returns-in_err-columns
 returns-in_err-columns c =
