@@ -1,7 +1,13 @@
 -- What each line of a sheet adds to what is read. Assumes nothing.
-use Rattle.std.proofs.Common.{◌≡◌, ℕ, Bool, true, false, List, [], ◌∷◌, ◌++◌, map, length, get_or, Option, Some, None, Ok, Err, sym, refl, ◌∙◌, subst, arith, Bor, MatchOption}
-use Rattle.std.specs.Option.{ok_or}
+use Rattle.std.proofs.Common.{IsTrue, rules, suc, zero, ◌≡◌, ℕ, Bool, true, false, List, [], ◌∷◌, ◌++◌, map, length, get_or, Option, Some, None, Ok, Err, sym, refl, ◌∙◌, subst, arith, Bor, MatchOption}
+use Rattle.std.specs.Option.{IfSome, ok_or}
+use Rattle.std.specs.List.{FoldsTo, slice_get}
+use Rattle.std.specs.Iterator.{Yields, FindsMapped}
+use Rattle.std.specs.Iterator.Runs.{YieldsRun, SomeRun, CallKeepsClosure, AllItemsGive}
+use Rattle.std.specs.Fn.{Called}
+use denote.Param.Members.{Mut}
 use Rattle.std.proofs.lemmas.List.{map_push, length-map, length_push}
+use Rattle.std.proofs.lemmas.Option.{IfSome_then}
 use Rattle.std.proofs.lemmas.Bool.{both_ways, or_from, or_left, or_right, not_from_true, not_from_false}
 use Rattle.sheet.specs.Lines.{lines_of, is_remark, blanks}
 use Rattle.sheet.specs.Reading.{unread, Holds, Gives, NextLine}
@@ -13,7 +19,7 @@ use Rattle.sheet.proofs.Splitting.{lines_are_found}
 use Rattle.rows.specs.Fields.{fields_of}
 use Rattle.rows.specs.Format.{IsHeader, skipped, Table}
 use Rattle.rows.specs.Held.{transition_of}
-use Rattle.rows.specs.Reading.{RowRead, Gone, Begun, HeaderRead}
+use Rattle.rows.specs.Reading.{RowRead, Gone, Begun, HeaderOf, HeaderRead}
 use Rattle.rows.specs.Verdict.{AllSkipped, LineAt, RowAt, Refused, Accepted}
 use Rattle.rows.specs.declared.columns.Columns.{Columns}
 use Rattle.rows.specs.declared.refusal.Refusal.{Refusal}
@@ -48,10 +54,10 @@ module _ (a b : Reader) (given : Numbered) (gives : Gives a (blanks (unread a)) 
     remark : is_remark (current a) ≡ true
     remark = remark_before a.headed (current a) given.line gives.holds unheaded other
 
-    pub still_unheaded : b.headed ≡ false
+    still_unheaded : b.headed ≡ false
     still_unheaded = gives.headed ∙ or_from _ _ unheaded (not_from_true _ remark)
 
-    pub header_not_yet : (s : List ℕ) → Gone s a AllSkipped → Gone s b AllSkipped
+    header_not_yet : (s : List ℕ) → Gone s a AllSkipped → Gone s b AllSkipped
     header_not_yet s gone =
         let at = next s AllSkipped skips_keep a b given gone gives in
         gone_on s (current a) _ b AllSkipped at AllSkipped (skips_keep at.mid (current a) (told true remark) at.such)
@@ -61,7 +67,7 @@ module _ (a b : Reader) (given : Numbered) (gives : Gives a (blanks (unread a)) 
     held = subst (Holds a.headed (current a)) header gives.holds
 
     -- what the header says, or that it is none
-    pub header_read : (s : List ℕ) → Gone s a AllSkipped → (c : Option Columns) → MatchOption c ((c : Columns) → IsHeader (fields_of part.now) c → ⊥) (IsHeader (fields_of part.now)) → HeaderRead s b (ok_or c (BadHeader given.number))
+    header_read : (s : List ℕ) → Gone s a AllSkipped → (c : Option Columns) → MatchOption c ((c : Columns) → IsHeader (fields_of part.now) c → ⊥) (IsHeader (fields_of part.now)) → HeaderRead s b (ok_or c (BadHeader given.number))
     header_read s gone None none =
         let at = next s AllSkipped skips_keep a b given gone gives in
         (fields_of (current a), line_at s (current a) _ b AllSkipped at (told false held.0), λ c fine. none c (subst (λ x. IsHeader (fields_of x) c) (sym held.2) fine))
@@ -121,9 +127,42 @@ module _ (a b : Reader) (given : Numbered) (gives : Gives a (blanks (unread a)) 
           due (BadField n) fine = (c, map transition_of rows, fields_of (current a), moved n fine.0, fine.1, fine.2)
           due (TooMany n) fine = (c, map transition_of rows, fields_of (current a), moved n fine.0, fine.1, omega (arith, few, begun.1, fine.2))
 
-pub header_missing : (s : List ℕ) (a b : Reader) → Gone s a AllSkipped → NextLine a None b → Refused s NoHeader
+header_missing : (s : List ℕ) (a b : Reader) → Gone s a AllSkipped → NextLine a None b → Refused s NoHeader
 header_missing s a b gone ended =
     (lines_of s, (lines_are_found s).0, passed_all (lines_of s) AllSkipped skips_keep (unread a) gone.before gone.such gone.whole ended.0)
+
+-- Lines of which none is the header.
+abbrev Others : List Numbered → Type 0
+Others xs = (k : ℕ) → IfSome (slice_get xs k) (λ x. HeaderOf x None)
+
+passes_others : (s : List ℕ) (xs : List Numbered) (a b : Reader) → Yields NextLine a xs b → Others xs → a.headed ≡ false → Gone s a AllSkipped → (b.headed ≡ false) × Gone s b AllSkipped
+passes_others s [] a b e other unheaded gone = subst (λ r. (r.headed ≡ false) × Gone s r AllSkipped) e (unheaded, gone)
+passes_others s (x ∷ xs) a b (j, step, more) other unheaded gone =
+    passes_others s xs j b more (λ k. other (suc k)) (still_unheaded a j x step unheaded (other 0)) (header_not_yet a j x step unheaded (other 0) s gone)
+
+-- The header is looked for by calls that tell whether a line is it.
+module _ {F : Type 0} (g : Mut F (Numbered × Unit {0}) (Option (ℕ × Bor (List ℕ)))) (tells : (p : F) (x : Numbered) (r : Option (ℕ × Bor (List ℕ))) (q : F) → Called g p (x, tt) r q → HeaderOf x r) where
+  others : (p : F) (xs : List Numbered) (q : F) → FoldsTo (λ p x q. Called g p (x, tt) None q) p xs q → Others xs
+  others p [] q folds k = tt
+  others p (x ∷ xs) q (j, call, folds) zero = tells p x None j call
+  others p (x ∷ xs) q (j, call, folds) (suc k) = others j xs q folds k
+
+  module _ (a : Reader) (f : F) (unheaded : a.headed ≡ false) (s : List ℕ) (gone : Gone s a AllSkipped) where
+    pub header_found : (b : Reader) (found : ℕ × Bor (List ℕ)) → FindsMapped NextLine g a f (Some found) b → (c : Option Columns) → MatchOption c ((c : Columns) → IsHeader (fields_of found.1.now) c → ⊥) (IsHeader (fields_of found.1.now)) → HeaderRead s b (ok_or c (BadHeader found.0))
+    header_found b found (xs, None, q, yields, folds, end) c says = absurd (cc)
+    header_found b found (xs, Some x, q, (j, yields, step), folds, (h, call)) c says =
+        let passed = passes_others s xs a j yields (others f xs q folds) unheaded gone in
+        let header = tells q x (Some found) h call in
+        rw header.0 (header_read j b x step found.1 header.1 s passed.1 c says)
+
+    pub no_header_found : CallKeepsClosure g f → SomeRun NextLine a (λ p. IsTrue p.whole × AllItemsGive p g f None) → Refused s NoHeader
+    unfolding YieldsRun
+    no_header_found keeps (run, from, (whole, gives)) =
+        let all = run.gave.0 in
+        let other : Others run.items = λ k. rw (← run.gave.1 k) (IfSome_then (run.at k) (gives keeps k) (λ x call. tells f x None f call)) in
+        let end = all.2 (search rules) in
+        let passed = passes_others s run.items a all.0 (rw from at all.1) other unheaded gone in
+        header_missing s all.0 end.0 passed.1 end.1
 
 pub rows_end : (s : List ℕ) (a b : Reader) (c : Columns) (rows : List Row) → Begun s a c rows → NextLine a None b → Accepted s (map transition_of rows)
 rows_end s a b c rows begun ended = (

@@ -1,7 +1,10 @@
 -- What the reader knows while it goes through a sheet. Assumes nothing.
-use Rattle.std.specs.Prelude.{◌≡◌, ℕ, ◌<◌, ◌≤◌, true, List, [], ◌++◌, map, length, Ok, Err, Result}
+use Rattle.std.specs.Prelude.{◌≡◌, ℕ, ◌<◌, ◌≤◌, true, List, [], ◌++◌, map, length, Some, None, Option, Ok, Err, Result}
+use Rattle.std.specs.Borrow.{Bor}
 use Rattle.sheet.specs.Lines.{lines_of}
 use Rattle.sheet.specs.Reading.{unread}
+use Rattle.sheet.specs.declared.line.Line.TheVariants.{Header}
+use Rattle.sheet.specs.declared.line.Numbered.{Numbered}
 use Rattle.sheet.specs.declared.lines.Lines.{Lines}
 use Rattle.rows.specs.Fields.{fields_of}
 use Rattle.rows.specs.Format.{Transition, IsRow, Table}
@@ -31,6 +34,11 @@ pub record Gone (s : List ℕ) (a : Lines) (Such : List (List ℕ) → Type 0) :
 -- They are a table of these rows, at most 2,048.
 abbrev pub Begun : List ℕ → Lines → Columns → List Row → Type 0
 Begun s a c rows = Gone s a (λ before. Table c before (map transition_of rows)) × (length rows ≤ 2048)
+
+-- The line that is given is the header, with its number; or it is something else.
+abbrev pub HeaderOf : Numbered → Option (ℕ × Bor (List ℕ)) → Type 0
+HeaderOf given None = (part : Bor (List ℕ)) → ¬ (given.line ≡ Header part)
+HeaderOf given (Some found) = (found.0 ≡ given.number) × (given.line ≡ Header found.1)
 
 -- The header is found: the lines read end with it. Or a refusal is due.
 abbrev pub HeaderRead : List ℕ → Lines → Result Columns Refusal → Type 0

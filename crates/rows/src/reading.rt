@@ -2,7 +2,7 @@
 ghost use Rattle.std.specs.Prelude.{◌≡◌, ℕ, ◌≤◌, true, false, List, [], map, length, IfOk};
 ghost use Rattle.rows.specs.Answers.{transitions, Answered};
 ghost use Rattle.rows.specs.Held.{held, transition_of, RowHeld};
-ghost use Rattle.rows.specs.Reading.{RowRead, Gone, Begun, HeaderRead, RowsRead};
+ghost use Rattle.rows.specs.Reading.{RowRead, Gone, Begun, HeaderOf, HeaderRead, RowsRead};
 ghost use Rattle.rows.specs.Verdict.{AllSkipped, OneVerdict};
 
 use crate::columns::Columns;
@@ -12,7 +12,7 @@ use crate::row::Row;
 use crate::rows::Rows;
 use crate::state::State;
 use actions::action::Action;
-use sheet::line::Line;
+use sheet::line::{Line, Numbered};
 use sheet::lines::Lines;
 use std::alloc::{AllocError, Global};
 
@@ -45,18 +45,23 @@ impl Columns {
     }
 }
 
+// The header with its number; none where the line is something else.
+fn header_of<'a>(next: Numbered<'a>) -> Option<(usize, &'a [u8])>
+    ensures { HeaderOf next.entry result }
+{
+    match next.line {
+        Line::Header(line) => Some((next.number, line)),
+        _ => None,
+    }
+}
+
 // The columns of the first line that is neither empty nor a remark.
 fn find_header(lines: &mut Lines) -> Result<Columns, Refusal>
     requires { lines.old.headed ≡ false }
     ensures { (s : List ℕ) → Gone s lines.old AllSkipped → HeaderRead s lines.new result }
 {
-    // `for` and `find_map` on a `&mut` iterator do not say what is left behind a return, or at none
-    while let Some(next) = lines.next() {
-        if let Line::Header(line) = next.line {
-            return Columns::read(line).ok_or(Refusal::BadHeader(next.number));
-        }
-    }
-    Err(Refusal::NoHeader)
+    let (number, line) = lines.find_map(header_of).ok_or(Refusal::NoHeader)?;
+    Columns::read(line).ok_or(Refusal::BadHeader(number))
 }
 
 // Each sheet is a table of one list of rows, or is refused in one way.

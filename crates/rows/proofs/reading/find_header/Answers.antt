@@ -1,18 +1,18 @@
-use Rattle.rows.proofs.Ways.{still_unheaded, header_not_yet, header_read, header_missing}
+use Rattle.std.proofs.Common.{rules, of_calls, ◌≡◌, refl}
+use Rattle.rows.specs.Verdict.{Refused}
+use Rattle.rows.specs.declared.refusal.Refusal.TheVariants.{NoHeader}
+use Rattle.rows.proofs.Ways.{header_found, no_header_found}
 use Rattle.rows.proofs.reading.find_header.Goals as goal
 
-pub returns-in-Header : goal.returns-in-Header
-returns-in-Header c = λ s gone.
-    rw c.ok_or.ensures.value (header_read c.loop-next.lines c.next.new.self c.in-Some.next c.in-Some.ensures.steps
-    c.in-Header.line c.in-Header.is s (c.loop-next.invariant.1 s gone) c.read.result c.read.ensures)
-
-pub loop-next-preserved : goal.loop-next-preserved
-loop-next-preserved c = (
-  still_unheaded c.loop-next.lines c.next.new.self c.in-Some.next c.in-Some.ensures.steps c.loop-next.invariant.0 c.in_default-line.not-Header,
-  λ s gone.
-      header_not_yet c.loop-next.lines c.next.new.self c.in-Some.next c.in-Some.ensures.steps
-      c.loop-next.invariant.0 c.in_default-line.not-Header s (c.loop-next.invariant.1 s gone),
-)
-
 pub returns : goal.returns
-returns c = λ s gone. header_missing s c.loop-next.lines c.next.new.self (c.loop-next.invariant.1 s gone) c.in_default.ensures.steps
+returns c = λ s gone.
+    let found = rw c.in_ok-number.ensures.ok_part at c.find_map.ensures.ran in
+    rw c.ok_or-2.ensures.value (header_found _ (λ p x r q called. search (rules, of_calls)) c.args.lines.now _ c.requires s gone c.find_map.new.self (c.in_ok-number.number, c.in_ok-number.line) found c.read.result c.read.ensures)
+
+pub returns-in_err-number : goal.returns-in_err-number
+returns-in_err-number c = λ s gone.
+    let run = rw c.in_err-number.ensures.ok_part at c.find_map.ensures.runs in
+    let said = rw c.in_err-number.ensures.ok_part at c.in_err-number.ensures.value in
+    let same : c.in_err-number.field-0.0 ≡ NoHeader = cc in
+    let missing : Refused s c.in_err-number.field-0.0 = rw same (no_header_found _ (λ p x r q called. search (rules, of_calls)) c.args.lines.now _ c.requires s gone (λ a r q called. refl) run) in
+    search rules
