@@ -1,5 +1,5 @@
 -- What each line of a sheet adds to what is read. Assumes nothing.
-use Rattle.std.proofs.Common.{IsTrue, rules, suc, zero, ◌≡◌, ℕ, Bool, true, false, List, [], ◌∷◌, ◌++◌, map, length, get_or, Option, Some, None, Ok, Err, sym, refl, ◌∙◌, subst, arith, Bor, MatchOption}
+use Rattle.std.proofs.Common.{IsTrue, rules, suc, zero, ◌≡◌, ℕ, ◌<◌, Bool, true, false, List, [], ◌∷◌, ◌++◌, map, length, get_or, Option, Some, None, Ok, Err, sym, refl, ◌∙◌, subst, arith, Bor, MatchOption}
 use Rattle.std.specs.Option.{IfSome, ok_or}
 use Rattle.std.specs.List.{FoldsTo, slice_get}
 use Rattle.std.specs.Iterator.{Yields, FindsMapped}
@@ -20,7 +20,7 @@ use Rattle.rows.specs.Fields.{fields_of}
 use Rattle.rows.specs.Format.{IsHeader, skipped, Table}
 use Rattle.rows.specs.Held.{transition_of}
 use Rattle.rows.specs.Reading.{RowRead, Gone, Begun, HeaderOf, HeaderRead}
-use Rattle.rows.specs.Verdict.{AllSkipped, LineAt, RowAt, Refused, Accepted}
+use Rattle.rows.specs.Verdict.{AllSkipped, RowAt, Refused, Accepted}
 use Rattle.rows.specs.declared.columns.Columns.{Columns}
 use Rattle.rows.specs.declared.refusal.Refusal.{Refusal}
 use Rattle.rows.specs.declared.refusal.Refusal.TheVariants.{NoHeader, BadHeader, Width, BadField, TooMany}
@@ -96,36 +96,39 @@ module _ (a b : Reader) (given : Numbered) (gives : Gives a (blanks (unread a)) 
       row_held : (is_remark (current a) ≡ false) × (a.headed ≡ true) × (part.now ≡ current a)
       row_held = subst (Holds a.headed (current a)) row_Line gives.holds
 
-      pub row_read : (row : Row) (count : ℕ) → count ≡ length rows → RowRead c part.now given.number count (Ok row) → Begun s b c (rows ++ row ∷ [])
-      row_read row count long read =
-          let fine = subst (λ x. RowRead c x given.number count (Ok row)) row_held.2 read in
-          let table = table_more c (current a) (told false row_held.0) (fields_are_found (current a)).0 fine.0 at.such in (
+      pub row_read : (row : Row) → RowRead c part.now given.number (Ok row) → length rows < 2048 → Begun s b c (rows ++ row ∷ [])
+      row_read row read room =
+          let fine = subst (λ x. RowRead c x given.number (Ok row)) row_held.2 read in
+          let table = table_more c (current a) (told false row_held.0) (fields_are_found (current a)).0 fine at.such in (
             gone_on s (current a) _ b Before at (λ ls. Table c ls (map transition_of (rows ++ row ∷ [])))
                 (subst (Table c (at.mid ++ current a ∷ [])) (sym (map_push transition_of rows row)) table),
-            omega (arith, length_push rows row, fine.1),
+            omega (arith, length_push rows row),
           )
 
-      pub row_refused : (e : Refusal) (count : ℕ) → count ≡ length rows → RowRead c part.now given.number count (Err e) → Refused s e
-      row_refused e count long read = due e (subst (λ x. RowRead c x given.number count (Err e)) row_held.2 read)
+      few : length (map transition_of rows) ≡ length rows
+      few = length-map rows transition_of
+
+      there : RowAt s given.number c (map transition_of rows) (fields_of (current a))
+      there = (line_at s (current a) _ b Before at (told false row_held.0), omega (arith, few, begun.1))
+
+      -- a row that is one too many
+      pub row_over : (row : Row) → RowRead c part.now given.number (Ok row) → length rows ≡ 2048 → Refused s (TooMany given.number)
+      row_over row read full =
+          let fine = subst (λ x. RowRead c x given.number (Ok row)) row_held.2 read in
+          (c, map transition_of rows, fields_of (current a), there, (transition_of row, fine), omega (arith, few))
+
+      pub row_refused : (e : Refusal) → RowRead c part.now given.number (Err e) → Refused s e
+      row_refused e read = due e (subst (λ x. RowRead c x given.number (Err e)) row_held.2 read)
         where
-          few : length (map transition_of rows) ≡ length rows
-          few = length-map rows transition_of
-
-          line : LineAt s given.number (fields_of (current a)) Before
-          line = line_at s (current a) _ b Before at (told false row_held.0)
-
-          there : RowAt s given.number c (map transition_of rows) (fields_of (current a))
-          there = (line, omega (arith, few, begun.1))
-
           moved : (n : ℕ) → n ≡ given.number → RowAt s n c (map transition_of rows) (fields_of (current a))
           moved n same = subst (λ k. RowAt s k c (map transition_of rows) (fields_of (current a))) (sym same) there
 
-          due : (x : Refusal) → RowRead c (current a) given.number count (Err x) → Refused s x
+          due : (x : Refusal) → RowRead c (current a) given.number (Err x) → Refused s x
           due NoHeader fine = absurd fine
           due (BadHeader n) fine = absurd fine
           due (Width n) fine = (c, map transition_of rows, fields_of (current a), moved n fine.0, fine.1)
           due (BadField n) fine = (c, map transition_of rows, fields_of (current a), moved n fine.0, fine.1, fine.2)
-          due (TooMany n) fine = (c, map transition_of rows, fields_of (current a), moved n fine.0, fine.1, omega (arith, few, begun.1, fine.2))
+          due (TooMany n) fine = absurd fine
 
 header_missing : (s : List ℕ) (a b : Reader) → Gone s a AllSkipped → NextLine a None b → Refused s NoHeader
 header_missing s a b gone ended =

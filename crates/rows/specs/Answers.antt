@@ -1,5 +1,5 @@
 -- What reading a sheet answers, and what rows it leaves. Assumes nothing.
-use Rattle.std.specs.Prelude.{◌≡◌, ℕ, List, [], map, Ok, Err, vec_items, Result}
+use Rattle.std.specs.Prelude.{◌≡◌, ℕ, List, [], map, Ok, Err, Result}
 use Rattle.rows.specs.Format.{Transition}
 use Rattle.rows.specs.Held.{transition_of}
 use Rattle.rows.specs.Verdict.{Accepted, Refused}
@@ -8,7 +8,7 @@ use Rattle.rows.specs.declared.rows.Rows.{Rows}
 
 -- The rows held, in order.
 abbrev pub transitions : Rows → List Transition
-transitions rows = map transition_of (vec_items rows.items)
+transitions rows = map transition_of rows.items
 
 -- A table is accepted with its rows. Any other sheet is refused, and no rows are left.
 abbrev pub Answered : List ℕ → List Transition → Result (Unit {0}) Refusal → Type 0

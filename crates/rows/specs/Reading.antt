@@ -1,5 +1,5 @@
 -- What the reader knows while it goes through a sheet. Assumes nothing.
-use Rattle.std.specs.Prelude.{◌≡◌, ℕ, ◌<◌, ◌≤◌, true, List, [], ◌++◌, map, length, Some, None, Option, Ok, Err, Result}
+use Rattle.std.specs.Prelude.{◌≡◌, ℕ, ◌≤◌, true, List, [], ◌++◌, map, length, Some, None, Option, Ok, Err, Result}
 use Rattle.std.specs.Borrow.{Bor}
 use Rattle.sheet.specs.Lines.{lines_of}
 use Rattle.sheet.specs.Reading.{unread}
@@ -15,14 +15,14 @@ use Rattle.rows.specs.declared.refusal.Refusal.{Refusal}
 use Rattle.rows.specs.declared.refusal.Refusal.TheVariants.{NoHeader, BadHeader, Width, BadField, TooMany}
 use Rattle.rows.specs.declared.row.Row.{Row}
 
--- What a line is read as, behind `count` rows: a row, or the refusal of line n.
-abbrev pub RowRead : Columns → List ℕ → ℕ → ℕ → Result Row Refusal → Type 0
-RowRead c l n count (Ok row) = IsRow c (fields_of l) (transition_of row) × (count < 2048)
-RowRead c l n count (Err NoHeader) = ⊥
-RowRead c l n count (Err (BadHeader line)) = ⊥
-RowRead c l n count (Err (Width line)) = (line ≡ n) × ¬ (length (fields_of l) ≡ c.width)
-RowRead c l n count (Err (BadField line)) = (line ≡ n) × (length (fields_of l) ≡ c.width) × ((t : Transition) → ¬ IsRow c (fields_of l) t)
-RowRead c l n count (Err (TooMany line)) = (line ≡ n) × ((t : Transition) × IsRow c (fields_of l) t) × (2048 ≤ count)
+-- What a line is read as: a row, or the refusal of line n.
+abbrev pub RowRead : Columns → List ℕ → ℕ → Result Row Refusal → Type 0
+RowRead c l n (Ok row) = IsRow c (fields_of l) (transition_of row)
+RowRead c l n (Err NoHeader) = ⊥
+RowRead c l n (Err (BadHeader line)) = ⊥
+RowRead c l n (Err (Width line)) = (line ≡ n) × ¬ (length (fields_of l) ≡ c.width)
+RowRead c l n (Err (BadField line)) = (line ≡ n) × (length (fields_of l) ≡ c.width) × ((t : Transition) → ¬ IsRow c (fields_of l) t)
+RowRead c l n (Err (TooMany line)) = ⊥
 
 -- The lines of the sheet that are read, all counted, are such.
 pub record Gone (s : List ℕ) (a : Lines) (Such : List (List ℕ) → Type 0) : Type 0 where

@@ -1,9 +1,10 @@
 // How the rows of a table are read from its sheet.
-ghost use Rattle.std.specs.Prelude.{◌≡◌, ℕ, ◌≤◌, true, false, List, [], map, length, IfOk};
+ghost use Rattle.std.specs.Prelude.{◌≡◌, ℕ, ◌<◌, ◌≤◌, true, false, List, [], ◌∷◌, ◌++◌, map, length, IfOk, MatchResult};
 ghost use Rattle.rows.specs.Answers.{transitions, Answered};
 ghost use Rattle.rows.specs.Held.{held, transition_of, RowHeld};
 ghost use Rattle.rows.specs.Reading.{RowRead, Gone, Begun, HeaderOf, HeaderRead, RowsRead};
 ghost use Rattle.rows.specs.Verdict.{AllSkipped, OneVerdict};
+ghost use Rattle.rows.specs.declared.refusal.Refusal.{Refusal};
 
 use crate::columns::Columns;
 use crate::fields::Fields;
@@ -12,11 +13,10 @@ use crate::row::Row;
 use crate::rows::Rows;
 use crate::state::State;
 use actions::action::Action;
+use bounded::Bounded;
 use sheet::line::{Line, Numbered};
 use sheet::lines::Lines;
 use std::alloc::{AllocError, Global};
-
-const MOST_ROWS: usize = 2048;
 
 impl Columns {
     // The row that the fields hold in these columns; none where one of them is bad.
@@ -29,19 +29,15 @@ impl Columns {
         Some(Row { from, action, to })
     }
 
-    // The row of a line, behind `count` rows.
-    fn read_row(self, line: &[u8], number: usize, count: usize) -> Result<Row, Refusal>
-        ensures { RowRead self line.now number count result }
+    // The row of a line.
+    fn read_row(self, line: &[u8], number: usize) -> Result<Row, Refusal>
+        ensures { RowRead self line.now number result }
     {
         let fields = Fields::split(line).ok_or(Refusal::Width(number))?;
         if fields.len() != self.width {
             return Err(Refusal::Width(number));
         }
-        let row = self.row_of(&fields).ok_or(Refusal::BadField(number))?;
-        if count >= MOST_ROWS {
-            return Err(Refusal::TooMany(number));
-        }
-        Ok(row)
+        self.row_of(&fields).ok_or(Refusal::BadField(number))
     }
 }
 
@@ -74,8 +70,9 @@ impl Rows {
     pub fn new(heap: Global) -> Result<Rows, AllocError>
         ensures { IfOk result (λ rows. transitions rows ≡ []) }
     {
-        let items = Vec::with_capacity(heap, MOST_ROWS)?;
-        Ok(Rows { items })
+        Ok(Rows {
+            items: Bounded::new(heap)?,
+        })
     }
 
     // The rows, in the order of the sheet.
@@ -86,15 +83,22 @@ impl Rows {
         self.items.as_slice()
     }
 
+    // Adds the row of a line, where there is room.
+    fn add(&mut self, row: Row, number: usize) -> Result<(), Refusal>
+        ensures { MatchResult result (λ _. (length self.old.items < 2048) × (self.new.items ≡ self.old.items ++ row ∷ [])) (λ e. (e ≡ Refusal.TooMany number) × (length self.old.items ≡ 2048)) }
+    {
+        self.items.push(row).map_err(|_| Refusal::TooMany(number))
+    }
+
     // Adds the rows behind the header.
     fn read_rows(&mut self, lines: Lines, columns: Columns) -> Result<(), Refusal>
         requires { lines.headed ≡ true }
-        ensures { (s : List ℕ) → Begun s lines.entry columns self.old.items.items → RowsRead s self.new.items.items result }
+        ensures { (s : List ℕ) → Begun s lines.entry columns self.old.items → RowsRead s self.new.items result }
     {
         for next in lines {
             if let Line::Row(line) = next.line {
-                let row = columns.read_row(line, next.number, self.items.len())?;
-                self.items.push_reserved(row);
+                let row = columns.read_row(line, next.number)?;
+                self.add(row, next.number)?;
             }
         }
         Ok(())
@@ -102,8 +106,8 @@ impl Rows {
 
     // Adds the rows of a sheet.
     fn read_sheet(&mut self, sheet: &[u8]) -> Result<(), Refusal>
-        requires { self.old.items.items ≡ [] }
-        ensures { RowsRead sheet.now self.new.items.items result }
+        requires { self.old.items ≡ [] }
+        ensures { RowsRead sheet.now self.new.items result }
     {
         let mut lines = Lines::new(sheet);
         let columns = find_header(&mut lines)?;

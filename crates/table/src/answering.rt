@@ -3,7 +3,6 @@ ghost use Rattle.std.specs.Prelude.{◌≡◌, ◌≤◌, length, map, Some};
 ghost use Rattle.rows.specs.Answers.{transitions};
 ghost use Rattle.table.specs.Answers.{meaning};
 ghost use Rattle.table.specs.Meaning.{ways_of};
-ghost use Rattle.std.proofs.Common.{arith};
 ghost use Rattle.table.specs.Limiting.{table_limits};
 
 use crate::table::Table;
@@ -30,7 +29,7 @@ impl Table {
 impl System for Table {
     ghost means = { meaning };
 
-    ghost limits = { λ x. table_limits x.rows.items.items (omega (arith, x.rows.few, x.rows.items.ok.0)) };
+    ghost limits = { λ x. table_limits x.rows.items x.rows.few };
 
     fn states(&self) -> u16 {
         self.index.states

@@ -6,4 +6,4 @@ use Rattle.rows.proofs.rows.Rows.read_rows.Given as goal
 abbrev pub invariant-loop-next : goal.invariant-loop-next
 invariant-loop-next l =
     (l.next-iterator.headed ≡ true)
-    × ((s : List ℕ) → Begun s l.fn.lines l.columns l.initial.self.items.items → Begun s l.next-iterator l.columns l.self.items.items)
+    × ((s : List ℕ) → Begun s l.fn.lines l.columns l.initial.self.items → Begun s l.next-iterator l.columns l.self.items)
