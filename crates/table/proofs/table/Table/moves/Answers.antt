@@ -7,7 +7,7 @@ use Rattle.table.proofs.Arranging.{rows_few}
 use Rattle.table.proofs.table.Table.moves.Goals as goal
 
 pub returns-then-state-ge-STATES-clause-ways : goal.returns-then-state-ge-STATES-clause-ways
-returns-then-state-ge-STATES-clause-ways c = sym (ap (map way_of) (none_past c.args.self.now.rows.items.items c.args.state c.if-state-ge-STATES.true))
+returns-then-state-ge-STATES-clause-ways c = sym (ap (map way_of) (none_past c.args.self.now.rows.items c.args.state c.if-state-ge-STATES.true))
 
 pub slice_bounds-result-count : goal.slice_bounds-result-count
 slice_bounds-result-count c = let x = c.args.self.now in in_order (transitions x.rows) x.index x.indexed c.from-state.result _ _ (omega arith) c.from-first.ensures c.from-end.ensures
