@@ -1,6 +1,5 @@
 mod Going
 mod Naming
-mod Numbering
 pub mod Telling
 mod Valuing
 mod Writing

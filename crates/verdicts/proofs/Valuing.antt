@@ -1,6 +1,7 @@
 -- What an entry says where its parts are decided decides its formula.
-use Rattle.std.proofs.Common.{◌≡◌, ℕ, ◌+◌, ◌<◌, Bool, true, false, ◌&&◌, ◌||◌, T, ◌⊎◌, ◌↔◌, List, [], length, get_or, sym, refl, subst, ap₂, inl, inr, ⊎_elim, arith, below_more}
+use Rattle.std.proofs.Common.{◌≡◌, ℕ, ◌+◌, ◌<◌, Bool, true, false, ◌&&◌, ◌||◌, T, ◌⊎◌, ◌↔◌, List, [], ◌∷◌, length, get_or, drop, ◌∙◌, length-drop, sym, ap, refl, subst, ap₂, inl, inr, ⊎_elim, arith, below_more}
 use Rattle.std.specs.List.{list_any, list_all}
+use Rattle.std.proofs.lemmas.List.{drop_more}
 use Rattle.lts.specs.Lts.{Lts}
 use Rattle.pair.specs.Wide.{Wide}
 use Rattle.hml.specs.Logic.{Formula, Sat}
@@ -64,6 +65,13 @@ module _ (m : Lts) (wide : Wide m) (P : ℕ → ℕ → Bool) (fs : List Formula
   value_decides (Or i j) h s l = either_decides (P i s) (P j s) (decided i s h.0 l) (decided j s h.1 l)
   value_decides (May a i) h s l = (may_holds a i s h.1, may_told a i s h.1)
   value_decides (Must a i) h s l = (must_holds a i s h.1, must_told a i s h.1)
+
+-- The entry that a loop takes next, after k of the list.
+pub entry_given : (es : List Entry) (k : ℕ) (e : Entry) (later : List Entry) → drop k es ≡ e ∷ later → (k < length es) × (e ≡ get_or es k True) × (later ≡ drop (k + 1) es)
+entry_given es k e later is =
+    let within : k < length es = omega (arith, ap length is, length-drop k es) in
+    let both : e ∷ later ≡ get_or es k True ∷ drop (k + 1) es = sym is ∙ drop_more es k True within in
+    (within, cc, cc)
 
 -- One entry more of a list is judged.
 pub judge_more :
