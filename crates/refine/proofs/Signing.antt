@@ -1,12 +1,12 @@
 -- States with the same signature are those that agree to one depth more, and the weights of signatures tell them apart.
-use Rattle.std.proofs.Common.{◌≡◌, ℕ, suc, ◌+◌, ◌*◌, ◌%◌, ◌<◌, ◌≤◌, Bool, true, false, cond, ◌||◌, eqb, ◌⊎◌, List, [], ◌∷◌, ◌++◌, get_or, min, sym, refl, ap, ap₂, ◌∙◌, subst, inl, inr, arith}
+use Rattle.std.proofs.Common.{◌≡◌, ℕ, suc, ◌+◌, ◌*◌, ◌%◌, ◌<◌, ◌≤◌, Bool, true, false, cond, ◌||◌, eqb, ◌⊎◌, List, [], ◌∷◌, ◌++◌, get_or, Some, min, sym, refl, ap, ap₂, ◌∙◌, subst, inl, inr, arith}
 use Rattle.std.proofs.lemmas.Nat.{mod_below}
 use Rattle.std.specs.Bool.{Decides}
 use Rattle.std.specs.List.{list_all}
 use Rattle.std.proofs.Math.Bool.{or-false}
 use Rattle.std.proofs.lemmas.Bool.{cases_Bool, and_from, ne_eqb, eqb-true, eq-eqb, or_right}
 use Rattle.std.proofs.lemmas.List.Folds.{list_any-append}
-use Rattle.lts.specs.Lts.{Lts}
+use Rattle.lts.specs.Lts.{Lts, Move, way_at}
 use Rattle.hml.specs.Bisimilarity.{Agree, Matched}
 use Rattle.hml.proofs.Agreement.{agree_sym, matched_wider}
 use Rattle.pair.specs.Wide.{Wide}
@@ -55,24 +55,30 @@ module _ (m : Lts) (names : List ℕ) where
     pub name_small : (s : ℕ) → s < m.states → get_or names s 0 < 2048
     name_small s l = omega (arith, class_low m r names classed s l, wide.most)
 
-    -- Where t has the signature of s, each move of s is matched.
-    covers_matched : (s t : ℕ) → ((i : ℕ) → signed m names s i ≡ true → signed m names t i ≡ true) → Matched m (Agree m r) s t
-    covers_matched s t h a u (k, e) =
-        let x = coded_by names (m.ways t) (code_of names (a, u)) (h (code_of names (a, u)) (move_coded names (m.ways s) k a u e)) in
+    -- A move of s whose code t has is matched by t, and t has the code of a move of s that it matches.
+    pub coded_matched : (s t k a u : ℕ) → way_at m s k ≡ Some (a, u) → signed m names t (code_of names (a, u)) ≡ true → (v : ℕ) × Move m t a v × Agree m r u v
+    coded_matched s t k a u e h =
+        let x = coded_by names (m.ways t) (code_of names (a, u)) h in
         let v = x.target in
         let lu = wide.target s k a u e in
         let lv = wide.target t x.place x.action v x.way in
         let y = same_code names a u x.action v (wide.action s k a u e) (wide.action t x.place x.action v x.way) (name_small u lu) (name_small v lv) x.code in
         (v, (x.place, rw y.0 at x.way), same_agree m r names classed u v lu lv (sym y.1))
 
+    pub matched_coded : (s t k a u v : ℕ) → way_at m s k ≡ Some (a, u) → Move m t a v → Agree m r u v → signed m names t (code_of names (a, u)) ≡ true
+    matched_coded s t k a u v e (j, f) h =
+        let same : get_or names u 0 ≡ get_or names v 0 = agree_same m r names classed u v (wide.target s k a u e) (wide.target t j a v f) h in
+        subst (λ n. signed m names t (min (a * 2048 + n) 108544) ≡ true) (sym same) (move_coded names (m.ways t) j a v f)
+
+    -- Where t has the signature of s, each move of s is matched.
+    covers_matched : (s t : ℕ) → ((i : ℕ) → signed m names s i ≡ true → signed m names t i ≡ true) → Matched m (Agree m r) s t
+    covers_matched s t h a u (k, e) = coded_matched s t k a u e (h (code_of names (a, u)) (move_coded names (m.ways s) k a u e))
+
     matched_covers : (s t : ℕ) → Matched m (Agree m r) s t → (i : ℕ) → signed m names s i ≡ true → signed m names t i ≡ true
     matched_covers s t h i e =
         let x = coded_by names (m.ways s) i e in
-        let a = x.action in
-        let u = x.target in
-        let y = h a u (x.place, x.way) in
-        let same : get_or names u 0 ≡ get_or names y.0 0 = agree_same m r names classed u y.0 (wide.target s x.place a u x.way) (wide.target t y.1.0 a y.0 y.1.1) y.2 in
-        subst (λ c. signed m names t c ≡ true) (ap (λ n. min (a * 2048 + n) 108544) (sym same) ∙ x.code) (move_coded names (m.ways t) y.1.0 a y.0 y.1.1)
+        let y = h x.action x.target (x.place, x.way) in
+        subst (λ c. signed m names t c ≡ true) x.code (matched_coded s t x.place x.action x.target y.0 x.way y.1 y.2)
 
     pub alike_agree : (s t : ℕ) → Alike m names s t → Agree m (suc r) s t
     alike_agree s t h = (

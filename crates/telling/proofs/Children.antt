@@ -1,61 +1,57 @@
--- The children of a line, way by way.
-use Rattle.std.proofs.Common.{◌≡◌, ℕ, ◌+◌, ◌<◌, ◌≤◌, Bool, true, false, cond, eqb, List, [], ◌∷◌, ◌++◌, map, length, get_or, take, drop, is_err, Some, None, Ok, Err, Result, sym, refl, ap, ◌∙◌, ap₂, arith}
-use Rattle.std.proofs.lemmas.List.{append_assoc, length-append, map-append, take_more, take_all, take-append-drop}
+-- The children of a line, move by move.
+use Rattle.std.proofs.Common.{◌≡◌, ℕ, ◌+◌, ◌<◌, Bool, true, false, cond, eqb, List, [], ◌∷◌, ◌++◌, map, filter, length, get_or, take, drop, is_err, Some, None, Ok, Err, Result, sym, refl, ap, ◌∙◌, ap₂, arith}
+use Rattle.std.proofs.lemmas.List.{length-append, map-append, map-id, take-append-drop, drop_more}
+use Rattle.std.proofs.lemmas.List.Elements.{filter-append}
+use Rattle.std.proofs.lemmas.Bool.{eq-eqb, ne_eqb}
 use Rattle.lts.specs.Lts.{Way}
 use Rattle.hml.specs.Distinguishing.{targets}
+use Rattle.refine.specs.Codes.{moves}
 use Rattle.telling.specs.Choosing.{paired, children_by}
 use Rattle.telling.specs.Queueing.{Queued}
-use Rattle.telling.specs.declared.choosing.Choice.{Choice}
+use Rattle.telling.specs.declared.queue.Queue.{Queue}
 use Rattle.telling.specs.declared.writing.TooLong.{TooLong}
-
-targets_append : (a : ℕ) (xs ys : List Way) → targets a (xs ++ ys) ≡ targets a xs ++ targets a ys
-targets_append a [] ys = refl
-targets_append a (None ∷ xs) ys = targets_append a xs ys
-targets_append a (Some p ∷ xs) ys = by_test (eqb p.0 a) (targets_append a xs ys)
-  where
-    by_test : (b : Bool) → targets a (xs ++ ys) ≡ targets a xs ++ targets a ys → cond b (p.1 ∷ targets a (xs ++ ys)) (targets a (xs ++ ys)) ≡ cond b (p.1 ∷ targets a xs) (targets a xs) ++ targets a ys
-    by_test true e = ap (λ ts. p.1 ∷ ts) e
-    by_test false e = e
-
-children_append : (c : Choice) (xs ys : List Way) → children_by c (xs ++ ys) ≡ children_by c xs ++ children_by c ys
-children_append c xs ys =
-    ap (map (paired c.modality c.target)) (targets_append c.action xs ys) ∙ map-append (paired c.modality c.target) (targets c.action xs) (targets c.action ys)
-
-push : (c : Choice) (ws : List Way) (k : ℕ) → k < length ws → children_by c (take (k + 1) ws) ≡ children_by c (take k ws) ++ children_by c (get_or ws k None ∷ [])
-push c ws k l = ap (children_by c) (take_more ws k None l) ∙ children_append c (take k ws) (get_or ws k None ∷ [])
-
--- The children of one way more stand behind those of the ways before: from x to y.
-pub children_more :
-    (c : Choice) (ws : List Way) (k : ℕ) (w : Way) (start x y : List (ℕ × ℕ))
-    → k < length ws → w ≡ get_or ws k None → y ≡ x ++ children_by c (w ∷ [])
-    → x ≡ start ++ children_by c (take k ws) → y ≡ start ++ children_by c (take (k + 1) ws)
-children_more c ws k w start x y l e f h =
-    f
-    ∙ ap₂ (λ ps o. ps ++ children_by c (o ∷ [])) h e
-    ∙ append_assoc start (children_by c (take k ws)) (children_by c (get_or ws k None ∷ []))
-    ∙ ap (λ ps. start ++ ps) (sym (push c ws k l))
-
-pub children_all :
-    (c : Choice) (ws : List Way) (k : ℕ) (start x : List (ℕ × ℕ)) → length ws ≤ k → x ≡ start ++ children_by c (take k ws) → x ≡ start ++ children_by c ws
-children_all c ws k start x l h = h ∙ ap (λ vs. start ++ children_by c vs) (take_all k ws l)
-
--- Where those of one way more are too many, all are.
-pub children_many :
-    (c : Choice) (ws : List Way) (k limit at : ℕ) (w : Way) (start x : List (ℕ × ℕ))
-    → k < length ws → w ≡ get_or ws k None → at ≡ limit → at < length x + length (children_by c (w ∷ []))
-    → x ≡ start ++ children_by c (take k ws) → limit < length start + length (children_by c ws)
-children_many c ws k limit at w start x l e same f h =
-    let split : children_by c ws ≡ children_by c (take (k + 1) ws) ++ children_by c (drop (k + 1) ws) = ap (children_by c) (sym (take-append-drop (k + 1) ws)) ∙ children_append c (take (k + 1) ws) (drop (k + 1) ws) in
-    omega (
-      arith,
-      ap length h ∙ length-append start (children_by c (take k ws)),
-      ap (λ o. length (children_by c (o ∷ []))) e,
-      ap length (push c ws k l) ∙ length-append (children_by c (take k ws)) (children_by c (get_or ws k None ∷ [])),
-      ap length split ∙ length-append (children_by c (take (k + 1) ws)) (children_by c (drop (k + 1) ws)),
-    )
+use Rattle.telling.specs.declared.choosing.Choice.{Choice}
 
 -- What is refused is too long.
-pub queued_none :
-    {A : Type 0} (limit : ℕ) (before more after : List (ℕ × ℕ)) (r : Result A TooLong) → is_err r ≡ true → limit < length before + length more → Queued limit before more after r
-queued_none limit before more after (Ok x) e h = let z : ◌≡◌ {A = ℕ} 0 1 = cc in absurd (omega arith)
-queued_none limit before more after (Err long) e h = h
+pub queued_none : {A : Type 0} (before : Queue) (more : List (ℕ × ℕ)) (after : Queue) (r : Result A TooLong) → is_err r ≡ true → before.limit < length before.pairs.items + length more → Queued before more after r
+queued_none before more after (Ok x) e h = let z : ◌≡◌ {A = ℕ} 0 1 = cc in absurd (omega arith)
+queued_none before more after (Err long) e h = h
+
+module _ (c : Choice) where
+  abbrev child : ℕ × ℕ → ℕ × ℕ
+  child p = paired c.modality c.target p.1
+
+  -- The pairs that moves of the other state give.
+  abbrev pub by_moves : List (ℕ × ℕ) → List (ℕ × ℕ)
+  by_moves ps = map child (filter (λ p. eqb p.0 c.action) ps)
+
+  pub all_moves : (ws : List Way) → by_moves (moves ws) ≡ children_by c ws
+  all_moves [] = refl
+  all_moves (None ∷ ws) = all_moves ws
+  all_moves (Some p ∷ ws) = by_test (eqb p.0 c.action) (all_moves ws)
+    where
+      by_test :
+          (b : Bool) → by_moves (moves ws) ≡ children_by c ws
+          → map child (cond b (p ∷ filter (λ q. eqb q.0 c.action) (moves ws)) (filter (λ q. eqb q.0 c.action) (moves ws))) ≡ map (paired c.modality c.target) (cond b (p.1 ∷ targets c.action ws) (targets c.action ws))
+      by_test true e = ap (λ qs. child p ∷ qs) e
+      by_test false e = e
+
+  joined : (xs ys : List (ℕ × ℕ)) → by_moves (xs ++ ys) ≡ by_moves xs ++ by_moves ys
+  joined xs ys = ap (map child) (filter-append (λ p. eqb p.0 c.action) xs ys) ∙ map-append child (filter (λ p. eqb p.0 c.action) xs) (filter (λ p. eqb p.0 c.action) ys)
+
+  given : (p : ℕ × ℕ) (ps : List (ℕ × ℕ)) → p.0 ≡ c.action → by_moves (p ∷ ps) ≡ child p ∷ by_moves ps
+  given p ps e = ap (λ b. map child (cond b (p ∷ filter (λ q. eqb q.0 c.action) ps) (filter (λ q. eqb q.0 c.action) ps))) (eq-eqb p.0 c.action e)
+
+  -- One move more.
+  pub one_more : (ps : List (ℕ × ℕ)) (p : ℕ × ℕ) → p.0 ≡ c.action → by_moves (ps ++ p ∷ []) ≡ by_moves ps ++ child p ∷ []
+  one_more ps p e = joined ps (p ∷ []) ∙ ap (λ qs. by_moves ps ++ qs) (given p [] e)
+
+  pub no_more : (ps : List (ℕ × ℕ)) (p : ℕ × ℕ) → ¬ (p.0 ≡ c.action) → by_moves (ps ++ p ∷ []) ≡ by_moves ps ++ []
+  no_more ps p n = joined ps (p ∷ []) ∙ ap (λ b. by_moves ps ++ map child (cond b (p ∷ []) [])) (ne_eqb p.0 c.action n)
+
+  -- A further move that gives a pair makes more pairs.
+  pub longer : (all ps : List (ℕ × ℕ)) (p : ℕ × ℕ) → map (λ x. x) ps ≡ take (length ps) all → length ps < length all → p ≡ get_or all (length ps) p → p.0 ≡ c.action → length (by_moves ps) < length (by_moves all)
+  longer all ps p front l here e =
+      let rest = drop (length ps + 1) all in
+      let split : ps ++ p ∷ rest ≡ all = ap₂ ◌++◌ (sym (map-id ps) ∙ front) (ap (λ q. q ∷ rest) here ∙ sym (drop_more all (length ps) p l)) ∙ take-append-drop (length ps) all in
+      omega (arith, ap (λ qs. length (by_moves qs)) split, ap length (joined ps (p ∷ rest) ∙ ap (λ qs. by_moves ps ++ qs) (given p rest e)), length-append (by_moves ps) (child p ∷ by_moves rest))

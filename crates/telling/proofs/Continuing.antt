@@ -1,8 +1,8 @@
 -- Lines that are partly written go on, one line at a time.
-use Rattle.std.proofs.Common.{◌≡◌, ℕ, ◌+◌, ◌-◌, ◌<◌, ◌≤◌, min, true, List, [], ◌∷◌, ◌++◌, length, get_or, take, drop, set, is_err, Ok, Err, Result, sym, refl, ap, ◌∙◌, subst, ap₂, subst₂, arith}
+use Rattle.std.proofs.Common.{◌≡◌, ℕ, ◌+◌, ◌-◌, ◌<◌, ◌≤◌, min, true, List, [], ◌∷◌, ◌++◌, length, get_or, take, drop, set, is_err, Ok, Err, Result, sym, refl, ap, ◌∙◌, subst, subst₂, arith}
 use Rattle.std.specs.List.{AllByRecursion as All}
 use Rattle.std.proofs.ByRecursion.{All-append, All-drop, All-get_or, All-map, All-weaker}
-use Rattle.std.proofs.lemmas.List.{append-nil, append_assoc, length-append, length-drop, length-take-le, get_or-take, take_more_set, drop-append-le, drop-drop, drop-set-lt, drop_more, drop_all}
+use Rattle.std.proofs.lemmas.List.{append-nil, append_assoc, length-append, length-drop, length-take-le, take_more_set, drop-append-le, drop-drop, drop-set-lt, drop_more, drop_all}
 use Rattle.lts.specs.Lts.{Lts}
 use Rattle.pair.specs.Wide.{Wide}
 use Rattle.hml.specs.Bisimilarity.{Bisimilar, Agree}
@@ -15,7 +15,7 @@ use Rattle.hml.proofs.Agreement.{agree_less}
 use Rattle.hml.proofs.Choosing.{all_targets, children_apart}
 use Rattle.hml.proofs.Resting.{bisimilar_agrees}
 use Rattle.hml.proofs.Writing.{lines_at, lines_exist}
-use Rattle.telling.specs.Progress.{Apart, Progress, TooMany, Advanced, Laid}
+use Rattle.telling.specs.Progress.{Apart, Progress, TooMany, Laid}
 use Rattle.telling.specs.declared.writing.TooLong.{TooLong}
 
 all_both : (P Q : ℕ × ℕ → Type 0) (xs : List (ℕ × ℕ)) → All P xs → All Q xs → All (λ x. P x × Q x) xs
@@ -109,30 +109,18 @@ module _
           lines_at m d (length pairs + length cs) (drop (i + 1) pairs ++ cs)
           (All-weaker (Apart m d) (λ q. ¬ Agree m d q.0 q.1) (λ q y. y.2) (drop (i + 1) pairs ++ cs) behind)
 
--- The same where the pairs are the first n of an array, and afterwards the first k of another.
+-- The same where the pairs with the children are qs, and the line x is computed from the numbers of pairs.
 module _
-    (m : Lts) (wide : Wide m) (s t d i n a : ℕ) (o : Modality) (p : ℕ × ℕ) (ps cs : List (ℕ × ℕ)) (before after : List Line)
-    (in_array : n ≤ length ps) (in-queue : i < n) (in_lines : i < length after) (is : p ≡ get_or ps i (0, 0)) (h : Progress m s t d i (take n ps) before after)
+    (m : Lts) (wide : Wide m) (s t d i a : ℕ) (o : Modality) (p : ℕ × ℕ) (pairs cs : List (ℕ × ℕ)) (before after : List Line)
+    (in_pairs : i < length pairs) (in_lines : i < length after) (is : p ≡ get_or pairs i (0, 0)) (h : Progress m s t d i pairs before after)
     (choose : p.0 < m.states → p.1 < m.states → ¬ Bisimilar m p.0 p.1 → Chosen m p.0 p.1 o a cs) where
-  pub queue_advances : (k : ℕ) (qs : List (ℕ × ℕ)) (x : Line) → k ≤ length qs → take k qs ≡ take n ps ++ cs → x ≡ line_of o a n (k - n) → Progress m s t d (i + 1) (take k qs) before (set after i x)
-  queue_advances k qs x lk e f =
-      let long : length (take n ps) ≡ n = length-take-le n ps in_array in
-      let count : k - n ≡ length cs = omega (arith, length-take-le k qs lk, ap length e ∙ length-append (take n ps) cs) in
-      let same : x ≡ line_of o a (length (take n ps)) (length cs) = f ∙ ap₂ (line_of o a) (sym long) count in
-      subst₂ (λ qs y. Progress m s t d (i + 1) qs before (set after i y)) (sym e) (sym same)
-      (advance m wide s t d i a o p (take n ps) cs before after (omega arith) in_lines (is ∙ sym (get_or-take n ps i (0, 0) in-queue)) h choose)
+  pub line_written : (qs : List (ℕ × ℕ)) (x : Line) → qs ≡ pairs ++ cs → x ≡ line_of o a (length pairs) (length qs - length pairs) → Progress m s t d (i + 1) qs before (set after i x)
+  line_written qs x e f =
+      let count : length qs - length pairs ≡ length cs = omega (arith, ap length e ∙ length-append pairs cs) in
+      subst₂ (λ qs y. Progress m s t d (i + 1) qs before (set after i y)) (sym e) (sym (f ∙ ap (line_of o a (length pairs)) count))
+      (advance m wide s t d i a o p pairs cs before after in_pairs in_lines is h choose)
 
-  pub queue_overflows : (limit : ℕ) → limit < length (take n ps) + length cs → TooMany m s t limit
-  queue_overflows =
-      too_many m wide s t d i a o p (take n ps) cs before after (omega (arith, length-take-le n ps in_array)) in_lines (is ∙ sym (get_or-take n ps i (0, 0) in-queue)) h choose
-
--- What is refused is too long.
-pub advanced_none :
-    {A : Type 0} (m : Lts) (s t d i limit : ℕ) (pairs : List (ℕ × ℕ)) (before after : List Line) (r : Result A TooLong)
-    → is_err r ≡ true → TooMany m s t limit → Advanced m s t d i limit pairs before after r
-advanced_none m s t d i limit pairs before after (Ok x) e h = let z : ◌≡◌ {A = ℕ} 0 1 = cc in absurd (omega arith)
-advanced_none m s t d i limit pairs before after (Err long) e h = h
-
+-- Lines that do not fit.
 pub laid_none :
     (m : Lts) (s t limit : ℕ) (before after : List Line) (r : Result ℕ TooLong)
     → is_err r ≡ true → limit ≡ min (length before) 4096 → TooMany m s t limit → Laid m s t before after r

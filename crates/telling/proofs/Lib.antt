@@ -1,4 +1,3 @@
-mod Marked
-mod Matching
-mod Children
-mod Continuing
+pub mod Matching
+pub mod Children
+pub mod Continuing

@@ -1,5 +1,6 @@
 -- What the line of a pair of states is chosen by, and what its children are. Assumes nothing.
 use Rattle.std.specs.Prelude.{ℕ, ◌-◌, List, map, Some, None, Option}
+use Rattle.std.specs.Option.{unwrap_or, option_map_or}
 use Rattle.lts.specs.Lts.{Lts, Way}
 use Rattle.hml.specs.Distinguishing.{targets, Chosen}
 use Rattle.hml.specs.declared.line.Modality.{Modality}
@@ -8,14 +9,12 @@ use Rattle.telling.specs.declared.choosing.Choice.{Choice}
 
 -- The depth before the least one to which two states do not agree.
 abbrev pub depth_before : Option ℕ → ℕ
-depth_before None = 0
-depth_before (Some r) = r - 1
+depth_before o = option_map_or (λ r. r - 1) o 0
 
 -- By a move of the first state that the second does not match, and else by one of the second.
 abbrev pub choice_of : Way → Way → Choice
 choice_of (Some p) o = record { modality = May; action = p.0; target = p.1 }
-choice_of None (Some p) = record { modality = Must; action = p.0; target = p.1 }
-choice_of None None = record { modality = Must; action = 0; target = 0 }
+choice_of None o = let p = unwrap_or o (0, 0) in record { modality = Must; action = p.0; target = p.1 }
 
 -- Of the states of a pair, the one without the move that is chosen.
 abbrev pub other : Modality → ℕ → ℕ → ℕ

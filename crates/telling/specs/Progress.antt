@@ -1,5 +1,5 @@
 -- Lines of which the first are written. Assumes nothing.
-use Rattle.std.specs.Prelude.{◌≡◌, ℕ, ◌+◌, ◌<◌, min, List, ◌++◌, length, take, drop, Ok, Err, Result}
+use Rattle.std.specs.Prelude.{◌≡◌, ℕ, ◌<◌, min, List, ◌++◌, length, take, drop, Ok, Err, Result}
 use Rattle.std.specs.List.{AllByRecursion}
 use Rattle.lts.specs.Lts.{Lts}
 use Rattle.hml.specs.Bisimilarity.{Agree}
@@ -23,11 +23,6 @@ pub record Progress (m : Lts) (s t d i : ℕ) (pairs : List (ℕ × ℕ)) (befor
 -- There are more lines than the limit.
 abbrev pub TooMany : Lts → ℕ → ℕ → ℕ → Type 0
 TooMany m s t limit = (ls : List Line) × LinesFor m s t ls × (limit < length ls)
-
--- Line i is written too, or there are too many.
-abbrev pub Advanced : {A : Type 0} → Lts → ℕ → ℕ → ℕ → ℕ → ℕ → List (ℕ × ℕ) → List Line → List Line → Result A TooLong → Type 0
-Advanced m s t d i limit pairs before after (Ok x) = Progress m s t d (i + 1) pairs before after
-Advanced m s t d i limit pairs before after (Err long) = TooMany m s t limit
 
 -- What is told, but for making the memory blank.
 abbrev pub Laid : Lts → ℕ → ℕ → List Line → List Line → Result ℕ TooLong → Type 0

@@ -1,8 +1,9 @@
 -- What putting pairs behind those that wait answers. Assumes nothing.
 use Rattle.std.specs.Prelude.{◌≡◌, ℕ, ◌+◌, ◌<◌, List, ◌++◌, length, Ok, Err, Result}
+use Rattle.telling.specs.declared.queue.Queue.{Queue}
 use Rattle.telling.specs.declared.writing.TooLong.{TooLong}
 
--- All stand behind, or they are too many for the limit. Before and after are the pairs that wait.
-abbrev pub Queued : {A : Type 0} → ℕ → List (ℕ × ℕ) → List (ℕ × ℕ) → List (ℕ × ℕ) → Result A TooLong → Type 0
-Queued limit before more after (Ok x) = after ≡ before ++ more
-Queued limit before more after (Err long) = limit < length before + length more
+-- All stand behind, or they are too many for the limit, which stays.
+abbrev pub Queued : {A : Type 0} → Queue → List (ℕ × ℕ) → Queue → Result A TooLong → Type 0
+Queued before more after (Ok x) = (after.pairs.items ≡ before.pairs.items ++ more) × (after.limit ≡ before.limit)
+Queued before more after (Err long) = before.limit < length before.pairs.items + length more

@@ -2,7 +2,5 @@
 #![tactic(auto)]
 
 mod choosing;
-mod lines;
-mod marks;
 mod queue;
 pub mod writing;
