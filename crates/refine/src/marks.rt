@@ -31,7 +31,8 @@ impl Marks {
         ensures { (i : ℕ) → marked self.new i ≡ false }
     {
         if self.stamp == u32::MAX {
-            *self = Marks::new();
+            self.stamps.fill(0);
+            self.stamp = 1;
         } else {
             self.stamp += 1;
         }

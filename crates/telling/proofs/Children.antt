@@ -2,7 +2,7 @@
 use Rattle.std.proofs.Common.{◌≡◌, ℕ, ◌+◌, ◌<◌, Bool, true, false, cond, eqb, List, [], ◌∷◌, ◌++◌, map, filter, length, get_or, take, drop, is_err, Some, None, Ok, Err, Result, sym, refl, ap, ◌∙◌, ap₂, arith}
 use Rattle.std.proofs.lemmas.List.{length-append, map-append, map-id, take-append-drop, drop_more}
 use Rattle.std.proofs.lemmas.List.Elements.{filter-append}
-use Rattle.std.proofs.lemmas.Bool.{eq-eqb, ne_eqb}
+use Rattle.std.proofs.lemmas.Bool.{eq-eqb}
 use Rattle.lts.specs.Lts.{Way}
 use Rattle.hml.specs.Distinguishing.{targets}
 use Rattle.refine.specs.Codes.{moves}
@@ -41,13 +41,6 @@ module _ (c : Choice) where
 
   given : (p : ℕ × ℕ) (ps : List (ℕ × ℕ)) → p.0 ≡ c.action → by_moves (p ∷ ps) ≡ child p ∷ by_moves ps
   given p ps e = ap (λ b. map child (cond b (p ∷ filter (λ q. eqb q.0 c.action) ps) (filter (λ q. eqb q.0 c.action) ps))) (eq-eqb p.0 c.action e)
-
-  -- One move more.
-  pub one_more : (ps : List (ℕ × ℕ)) (p : ℕ × ℕ) → p.0 ≡ c.action → by_moves (ps ++ p ∷ []) ≡ by_moves ps ++ child p ∷ []
-  one_more ps p e = joined ps (p ∷ []) ∙ ap (λ qs. by_moves ps ++ qs) (given p [] e)
-
-  pub no_more : (ps : List (ℕ × ℕ)) (p : ℕ × ℕ) → ¬ (p.0 ≡ c.action) → by_moves (ps ++ p ∷ []) ≡ by_moves ps ++ []
-  no_more ps p n = joined ps (p ∷ []) ∙ ap (λ b. by_moves ps ++ map child (cond b (p ∷ []) [])) (ne_eqb p.0 c.action n)
 
   -- A further move that gives a pair makes more pairs.
   pub longer : (all ps : List (ℕ × ℕ)) (p : ℕ × ℕ) → map (λ x. x) ps ≡ take (length ps) all → length ps < length all → p ≡ get_or all (length ps) p → p.0 ≡ c.action → length (by_moves ps) < length (by_moves all)

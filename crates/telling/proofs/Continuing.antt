@@ -1,5 +1,5 @@
 -- Lines that are partly written go on, one line at a time.
-use Rattle.std.proofs.Common.{◌≡◌, ℕ, ◌+◌, ◌-◌, ◌<◌, ◌≤◌, min, true, List, [], ◌∷◌, ◌++◌, length, get_or, take, drop, set, is_err, Ok, Err, Result, sym, refl, ap, ◌∙◌, subst, subst₂, arith}
+use Rattle.std.proofs.Common.{◌≡◌, ℕ, ◌+◌, ◌-◌, ◌<◌, ◌≤◌, min, true, List, [], ◌∷◌, ◌++◌, length, get_or, take, drop, set, is_err, Ok, Err, Result, sym, ap, ◌∙◌, subst, subst₂, arith}
 use Rattle.std.specs.List.{AllByRecursion as All}
 use Rattle.std.proofs.ByRecursion.{All-append, All-drop, All-get_or, All-map, All-weaker}
 use Rattle.std.proofs.lemmas.List.{append-nil, append_assoc, length-append, length-drop, length-take-le, take_more_set, drop-append-le, drop-drop, drop-set-lt, drop_more, drop_all}
@@ -41,10 +41,6 @@ all_apart : (m : Lts) → Wide m → (s t a d : ℕ) (o : Modality) (cs : List (
 all_apart m wide s t a d o cs c n =
     let both = all_both (λ p. (p.0 < m.states) × (p.1 < m.states)) (λ p. ¬ Agree m d p.0 p.1) cs (children_states m wide s t a o cs c) (children_apart m s t a d o cs c (λ h. n (agree_less m d s t h))) in
     All-weaker (λ p. ((p.0 < m.states) × (p.1 < m.states)) × ¬ Agree m d p.0 p.1) (Apart m d) (λ p x. (x.0.0, x.0.1, x.1)) cs both
-
--- Before the first line.
-pub progress_starts : (m : Lts) (s t d : ℕ) (before : List Line) → s < m.states → t < m.states → ¬ Agree m d s t → Progress m s t d 0 ((s, t) ∷ []) before before
-progress_starts m s t d before ls lt n = record { apart = ((ls, lt, n), tt); kept = refl; completed = λ rest w. w }
 
 -- After the last.
 pub progress_ends : (m : Lts) (s t d i : ℕ) (pairs : List (ℕ × ℕ)) (before after : List Line) → i ≡ length pairs → Progress m s t d i pairs before after → LinesFor m s t (take i after)
