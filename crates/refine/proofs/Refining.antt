@@ -31,6 +31,9 @@ module _ (m : Lts) (wide : Wide m) where
   pub names_few : (names : List ℕ) → names_in m names ≤ 2048
   names_few names = omega (arith, weighed_most (λ u. 1) 1 (λ i. omega arith) (λ u. eqb (get_or names u 0) u) m.states, wide.most)
 
+  pub shallow : {r : ℕ} {names : List ℕ} {partings : List Parting} → Refining m r names partings → r < 2048
+  shallow {names = names} h = omega (arith, h.enough, names_few names)
+
   pub begins : (r : ℕ) (names : List ℕ) (partings : List Parting) → r ≡ 0 → names ≡ replicate 2048 0 → Refining m r names partings
   begins r names partings e f = record {
     treed = λ u some l h. absurd (omega (arith, some, zeros 2048 u, ap (λ ns. get_or ns u 0) f, h));

@@ -1,5 +1,8 @@
 // The classes of bisimilar states.
 
+// The most states of a system, and so the most classes.
+pub const STATES: usize = 2048;
+
 // The name from which a name parted, and the depth at which the two first disagree.
 #[derive(Clone, Copy, Default)]
 pub(crate) struct Parting {
@@ -10,6 +13,6 @@ pub(crate) struct Parting {
 // For each state the lowest state of its class, which names it, and for each name but 0 how it parted.
 #[derive(Clone, Copy)]
 pub struct Classes {
-    pub(crate) names: [u16; 2048],
-    pub(crate) partings: [Parting; 2048],
+    pub(crate) names: [u16; STATES],
+    pub(crate) partings: [Parting; STATES],
 }

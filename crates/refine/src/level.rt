@@ -2,13 +2,14 @@
 ghost use Rattle.std.specs.Prelude.{◌≡◌, replicate};
 ghost use Rattle.refine.specs.Classes.{Classed};
 
+use crate::classes::STATES;
 use pair::graph::Graph;
 
 // Each state has the name of its class to the depth.
 #[derive(Drop)]
 pub(crate) struct Level<'a, G: Graph> {
     pub(crate) graph: &'a G,
-    pub(crate) names: [u16; 2048],
+    pub(crate) names: [u16; STATES],
     pub(crate) depth: u16,
     ghost classed: { ∥ Classed (G.Graph.means graph.now) depth names ∥₁ },
 }
@@ -22,7 +23,7 @@ impl<'a, G: Graph> Level<'a, G> {
     {
         Level {
             graph,
-            names: [0; 2048],
+            names: [0; STATES],
             depth: 0,
         }
     }

@@ -4,7 +4,7 @@ ghost use Rattle.lts.specs.Lts.{Lts};
 ghost use Rattle.pair.specs.Wide.{Wide};
 ghost use Rattle.refine.specs.Classes.{Classed, Refined, parting_at};
 
-use crate::classes::Classes;
+use crate::classes::{Classes, STATES};
 
 impl Classes {
     // The state whose class state s is in to this depth: the name of s, or the name from which s parted later, and s
@@ -26,11 +26,11 @@ impl Classes {
     }
 
     // The name of each state's class to this depth.
-    pub fn names_at(&self, depth: u16, names: &mut [u16; 2048])
+    pub fn names_at(&self, depth: u16, names: &mut [u16; STATES])
         ensures { (m : Lts) → Wide m → Refined m self.now → Classed m depth names.new }
     {
         // the names below are read while the list is written, so the states are gone through by number
-        for s in 0..2048u16 {
+        for s in 0..STATES as u16 {
             let leader = self.leader(s, depth);
             names[usize::from(s)] = if leader < s {
                 names[usize::from(leader)]

@@ -3,7 +3,7 @@
 
 ghost use Rattle.refine.specs.Classes.{Refined};
 
-use crate::classes::{Classes, Parting};
+use crate::classes::{Classes, Parting, STATES};
 use crate::level::Level;
 use crate::marks::Marks;
 use pair::graph::Graph;
@@ -22,7 +22,7 @@ pub fn refine<G: Graph>(graph: &G) -> Classes
     ensures { Refined (G.Graph.means graph.now) result }
 {
     let mut level = Level::first(graph);
-    let mut partings = [Parting::default(); 2048];
+    let mut partings = [Parting::default(); STATES];
     let mut marks = Marks::new();
     loop {
         let round = level.split(&mut marks);

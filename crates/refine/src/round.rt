@@ -6,7 +6,7 @@ ghost use Rattle.refine.specs.Codes.{moves};
 ghost use Rattle.refine.specs.Signatures.{Signed};
 ghost use Rattle.refine.specs.Rounds.{Placed, Entered};
 
-use crate::classes::Parting;
+use crate::classes::{Parting, STATES};
 use crate::level::Level;
 use crate::marks::Marks;
 use arrayvec::ArrayVec;
@@ -14,11 +14,12 @@ use pair::graph::Graph;
 
 // What a round has found of the states so far: the names of their classes to the next depth, which become those of the
 // next level as they stand, the weights of their signatures, and in order the states that are names and were none.
+// `Placed` says of it how far the round has come; it is no ghost field, since it speaks of the level too.
 #[derive(Drop)]
 pub(crate) struct Round {
-    pub(crate) next: [u16; 2048],
-    pub(crate) weights: [u64; 2048],
-    pub(crate) fresh: ArrayVec<u16, 2048>,
+    pub(crate) next: [u16; STATES],
+    pub(crate) weights: [u64; STATES],
+    pub(crate) fresh: ArrayVec<u16, STATES>,
 }
 
 impl Round {
@@ -31,7 +32,8 @@ impl Round {
 
     // Enters the name of a state, which had the name `class`, and the weight of its signature.
     fn enter(&mut self, state: u16, class: u16, name: u16, weight: u64)
-        requires { (state < 2048) × (array_vec_len self.old.fresh ≤ state) }
+        requires state { state < 2048 }
+        requires few { array_vec_len self.old.fresh ≤ state }
         ensures { Entered self.old state class name weight self.new }
     {
         self.next[usize::from(state)] = name;
@@ -79,8 +81,8 @@ impl<'a, G: Graph> Level<'a, G> {
         ensures { Placed (G.Graph.means self.now.graph.now) self.now.depth self.now.names (G.Graph.means self.now.graph.now).states result }
     {
         let mut round = Round {
-            next: [0; 2048],
-            weights: [0; 2048],
+            next: [0; STATES],
+            weights: [0; STATES],
             fresh: ArrayVec::new(),
         };
         for state in 0..self.graph.states() {
@@ -89,9 +91,10 @@ impl<'a, G: Graph> Level<'a, G> {
         round
     }
 
-    // Records of each fresh name from which it parted, and the depth.
-    pub(crate) fn part(&self, round: &Round, partings: &mut [Parting; 2048])
-        requires { Placed (G.Graph.means self.now.graph.now) self.now.depth self.now.names (G.Graph.means self.now.graph.now).states round.now × (self.now.depth < 2048) }
+    // Records for each fresh name from which it parted, and the depth.
+    pub(crate) fn part(&self, round: &Round, partings: &mut [Parting; STATES])
+        requires placed { Placed (G.Graph.means self.now.graph.now) self.now.depth self.now.names (G.Graph.means self.now.graph.now).states round.now }
+        requires depth { self.now.depth < 2048 }
         ensures fresh { (j : ℕ) → j < array_vec_len round.now.fresh → parting_at partings.new (slice_index round.now.fresh.items j) ≡ record { parent = slice_index self.now.names (slice_index round.now.fresh.items j); depth = self.now.depth + 1 } }
         ensures others { (u : ℕ) → ((j : ℕ) → j < array_vec_len round.now.fresh → ¬ (slice_index round.now.fresh.items j ≡ u)) → parting_at partings.new u ≡ parting_at partings.old u }
     {
@@ -105,7 +108,8 @@ impl<'a, G: Graph> Level<'a, G> {
 
     // The classes to the next depth.
     pub(crate) fn deeper(&self, round: Round) -> Level<'a, G>
-        requires { Placed (G.Graph.means self.now.graph.now) self.now.depth self.now.names (G.Graph.means self.now.graph.now).states round × (self.now.depth < 2048) }
+        requires placed { Placed (G.Graph.means self.now.graph.now) self.now.depth self.now.names (G.Graph.means self.now.graph.now).states round }
+        requires depth { self.now.depth < 2048 }
         ensures graph { result.graph.now ≡ self.now.graph.now }
         ensures names { result.names ≡ round.next }
         ensures depth { result.depth ≡ self.now.depth + 1 }

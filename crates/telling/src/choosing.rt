@@ -7,7 +7,7 @@ ghost use Rattle.telling.specs.Unlike.{WhereUnlike, first_unlike};
 use hml::line::{Line, Modality};
 use pair::graph::Graph;
 use pair::ways::Ways;
-use refine::classes::Classes;
+use refine::classes::{Classes, STATES};
 use refine::codes::Code;
 use refine::marks::Marks;
 
@@ -71,7 +71,7 @@ fn first_unlike<G: Graph>(
     graph: &G,
     s: u16,
     t: u16,
-    names: &[u16; 2048],
+    names: &[u16; STATES],
     marks: &mut Marks,
 ) -> Option<(u8, u16)>
     ensures { result ≡ first_unlike (G.Graph.means graph.now) names.now s t }
@@ -98,7 +98,7 @@ impl<'a, G: Graph> Classified<'a, G> {
     pub(crate) fn choose(&self, s: u16, t: u16, marks: &mut Marks) -> Choice
         ensures { WhereUnlike (G.Graph.means self.now.graph.now) self.now.classes.now s t (Chooses (G.Graph.means self.now.graph.now) s t result) }
     {
-        let mut names = [0; 2048];
+        let mut names = [0; STATES];
         let depth = self
             .classes
             .parts_at(s, t)

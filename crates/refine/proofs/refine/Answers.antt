@@ -5,7 +5,7 @@ use Rattle.hml.proofs.Deciding.{by_order}
 use Rattle.arrayvec.specs.ArrayVec.{array_vec_len}
 use Rattle.refine.specs.Classes.{Refined}
 use Rattle.refine.proofs.Naming.{classed_of}
-use Rattle.refine.proofs.Refining.{names_few, begins, rests, refining_more}
+use Rattle.refine.proofs.Refining.{shallow, begins, rests, refining_more}
 use Rattle.refine.proofs.refine.Goals as goal
 
 pub loop-marks-init : goal.loop-marks-init
@@ -27,20 +27,16 @@ returns-then-is_empty g c =
       parted = c.loop-marks.invariant.refining.treed;
     })
 
-pub part-requires : goal.part-requires
-part-requires g c =
-    let level = c.loop-marks.level in
-    (c.split-round.ensures, omega (arith, c.loop-marks.invariant.refining.enough, names_few (g.G.Graph.means level.graph.now) (g.met.G.Graph.wide level.graph.now) level.names))
+pub part-requires-clause-depth : goal.part-requires-clause-depth
+part-requires-clause-depth g c = let level = c.loop-marks.level in shallow (g.G.Graph.means level.graph.now) (g.met.G.Graph.wide level.graph.now) c.loop-marks.invariant.refining
 
-pub deeper-level-requires : goal.deeper-level-requires
-deeper-level-requires g c =
-    let level = c.loop-marks.level in
-    (c.split-round.ensures, omega (arith, c.loop-marks.invariant.refining.enough, names_few (g.G.Graph.means level.graph.now) (g.met.G.Graph.wide level.graph.now) level.names))
+pub deeper-level-requires-clause-depth : goal.deeper-level-requires-clause-depth
+deeper-level-requires-clause-depth g c = let level = c.loop-marks.level in shallow (g.G.Graph.means level.graph.now) (g.met.G.Graph.wide level.graph.now) c.loop-marks.invariant.refining
 
 pub loop-marks-smaller : goal.loop-marks-smaller
 loop-marks-smaller g c =
     let level = c.loop-marks.level in
-    omega (arith, c.deeper-level.ensures.depth, c.loop-marks.invariant.refining.enough, names_few (g.G.Graph.means level.graph.now) (g.met.G.Graph.wide level.graph.now) level.names)
+    omega (arith, c.deeper-level.ensures.depth, shallow (g.G.Graph.means level.graph.now) (g.met.G.Graph.wide level.graph.now) c.loop-marks.invariant.refining)
 
 pub loop-marks-preserved : goal.loop-marks-preserved
 loop-marks-preserved g c =

@@ -31,7 +31,7 @@ loop-state-preserved g c =
     let ps = c.loop-state.partings in
     let i = c.loop-state.state-index in
     let same = c.deref-state-items.ensures.0 in
-    let fresh = c.requires.0.fresh i (omega (arith, ap length same, c.loop-state-test.true)) in
+    let fresh = c.requires.placed.fresh i (omega (arith, ap length same, c.loop-state-test.true)) in
     let lt : get_or items i 0 < length ps = rw same (omega (arith, c.loop-state.invariant.long, fresh.below, (g.met.G.Graph.wide c.args.self.now.graph.now).most)) in
     rw (c.from.ensures, c.from-in-loop-state.ensures)
     (record {
