@@ -2,8 +2,8 @@
 use refine::classes::Classes;
 use verdicts::words::Verdicts;
 
-// The verdict of each formula at each state, and the classes of the states. The distances are for looking for runs, and
-// mean nothing between calls.
+// The verdict of each formula at each state, and the classes of the states, in fixed arrays, since settling allocates
+// nothing. The distances are for looking for runs, and mean nothing between calls.
 #[derive(Drop)]
 pub struct Inner {
     pub(crate) verdicts: Verdicts,

@@ -10,7 +10,8 @@ pub(crate) struct Parting {
     pub(crate) depth: u16,
 }
 
-// For each state the lowest state of its class, which names it, and for each name but 0 how it parted.
+// For each state the lowest state of its class, which names it, and for each name but 0 how it parted. Two arrays, since
+// a round replaces the names as they stand and leaves the partings; fixed ones, since settling allocates nothing.
 #[derive(Clone, Copy)]
 pub struct Classes {
     pub(crate) names: [u16; STATES],

@@ -10,7 +10,8 @@ ghost use Rattle.refine.specs.Climbs.{IsName};
 use crate::classes::{Classes, Parting};
 
 impl Classes {
-    // The name of the state's class: 0 for a state over 2,047.
+    // The name of the state's class: 0 for a state over 2,047. Not none: names are only compared, of states that are
+    // tested before, so it would be taken apart for nothing.
     pub fn name(&self, state: u16) -> u16
         ensures value { result ≡ slice_index self.now.names state }
         ensures past { 2048 ≤ state → result ≡ 0 }

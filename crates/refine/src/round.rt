@@ -23,7 +23,7 @@ pub(crate) struct Round {
 }
 
 impl Round {
-    // The weight of the signature of a state: 0 for a state over 2,047.
+    // The weight of the signature of a state: 0 for a state over 2,047, as `name` has it.
     fn weight(&self, state: u16) -> u64
         ensures { result ≡ slice_index self.now.weights state }
     {
@@ -85,6 +85,7 @@ impl<'a, G: Graph> Level<'a, G> {
             weights: [0; STATES],
             fresh: ArrayVec::new(),
         };
+        // by number, as a graph lends no list of its states
         for state in 0..self.graph.states() {
             self.place(state, marks, &mut round);
         }
