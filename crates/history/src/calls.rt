@@ -40,7 +40,7 @@ pub struct Telling {
     pub answer: Option<Result<u16, TellRefusal>>,
 }
 
-// A call of a settled bench.
+// A call of a settled bench, as data and no closure, since it is handed back with its answer beside it.
 #[derive(Drop)]
 pub enum Question {
     Rule(Ruling),

@@ -12,6 +12,7 @@ pub(crate) struct Parting {
 
 // For each state the lowest state of its class, which names it, and for each name but 0 how it parted. Two arrays, since
 // a round replaces the names as they stand and leaves the partings; fixed ones, since settling allocates nothing.
+// Which system they are those of is no part of them, as a bench moves its systems: contracts say it by `Refined`.
 #[derive(Clone, Copy)]
 pub struct Classes {
     pub(crate) names: [u16; STATES],

@@ -16,6 +16,7 @@ impl Code {
     fn weight(self) -> u64
         ensures { result ≡ weight_of self.number }
     {
+        // by `as`, since there is no `From` of the one for the other
         let x = (self.number as u64 * 2654435761 + 40503) % 4294967291;
         x * x % 4294967291 + 1
     }

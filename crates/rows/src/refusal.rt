@@ -2,6 +2,7 @@
 ghost use Rattle.std.specs.Prelude.{◌≡◌};
 ghost use Rattle.rows.specs.Refusals.{number_of, place_of};
 
+use std::error::Error;
 use std::fmt;
 
 // The first rule that a sheet breaks, with the line that breaks it.
@@ -19,6 +20,7 @@ pub enum Refusal {
     TooMany(usize),
 }
 
+// A refusal has a number, a place and a text, so `From` would not say which of them is meant.
 impl Refusal {
     pub fn number(self) -> u8
         ensures { result ≡ number_of self }
@@ -31,7 +33,7 @@ impl Refusal {
         }
     }
 
-    // The line, all lines counted from 1; 0 where there is no header.
+    // The line, all lines counted from 1; 0 where there is no header, as the format has it.
     pub fn place(self) -> usize
         ensures { result ≡ place_of self }
     {
@@ -66,3 +68,5 @@ impl fmt::Display for Refusal {
         }
     }
 }
+
+impl Error for Refusal {}
