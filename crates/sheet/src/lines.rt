@@ -4,7 +4,8 @@ ghost use Rattle.sheet.specs.Cursors.{place};
 
 use crate::cursor::Cursor;
 
-// Where the next line begins, how many lines are read, and whether the header is among them.
+// Where the next line begins, how many lines are read, and whether the header is among them. `enumerate` over all lines
+// would be one more iterator for the count, which is no plainer.
 #[derive(Drop)]
 pub struct Lines<'a> {
     pub(crate) cursor: Cursor<'a>,
