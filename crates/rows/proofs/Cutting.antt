@@ -1,5 +1,5 @@
 -- The fields of a line: by the relation and by the function, and one after the other. Assumes nothing.
-use Rattle.std.proofs.Common.{◌≡◌, ℕ, ◌<◌, Bool, true, false, cond, List, [], ◌∷◌, ◌++◌, length, take, drop, sym, refl, ap, ◌∙◌, subst, ⊎_elim, one-add, append_assoc, map, arith, Bor}
+use Rattle.std.proofs.Common.{◌≡◌, ℕ, Bool, true, false, cond, List, [], ◌∷◌, ◌++◌, take, drop, sym, refl, ap, ◌∙◌, subst, ⊎_elim, one-add, append_assoc, map, Bor}
 use Rattle.std.specs.List.{onto_first}
 use Rattle.std.proofs.lemmas.List.{drop-drop, map_push}
 use Rattle.std.proofs.lemmas.Bool.{ne_eqb, cond-false, cases_eq}
@@ -48,9 +48,6 @@ first_and_rest : (s : List ℕ) → fields_of s ≡ take (length_to 44 s) s ∷ 
 first_and_rest [] = refl
 first_and_rest (b ∷ bs) =
     ⊎_elim (λ e. rw e) (λ e. rw (ne_eqb b 44 e, one-add) (ap (onto_first b) (first_and_rest bs))) (cases_eq b 44)
-
-pub some_field : (s : List ℕ) → 0 < length (fields_of s)
-some_field s = rw (first_and_rest s) (omega arith)
 
 -- A cursor reads the field f, from its start to its end, and passes the comma that ends it.
 pub field_read : (start end next : Cursor) {f : List ℕ} (comma : Bool) → f ≡ take (length_to 44 (rest start)) (rest start) → Moved start (length_to 44 (rest start)) end → comma ≡ begins 44 (rest end) → Moved end (one comma) next → fields_of (rest start) ≡ f ∷ cond comma (fields_of (rest next)) []
