@@ -4,7 +4,7 @@ use formula::entry::Entry;
 use std::marker::Model;
 
 // At most 128 entries, in order, each of which names only earlier ones and an action up to 52.
-#[derive(Drop)]
+#[derive(Clone, Drop)]
 pub struct Held {
     pub(crate) entries: ArrayVec<Entry, 128>,
 }

@@ -31,6 +31,7 @@ fn write_system<S: System>(out: &mut String, system: &S) -> Result<(), AllocErro
     let start = system.start();
     writeln!(out, "states,{states}")?;
     writeln!(out, "start,{start}")?;
+    // by number, as above
     for state in 0..states {
         write_moves(out, system, state)?;
     }

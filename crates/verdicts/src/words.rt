@@ -7,7 +7,7 @@ use crate::bits::bit_of;
 // The verdicts of up to 128 formulas at up to 2,048 states.
 #[derive(Clone, Copy)]
 pub struct Verdicts {
-    pub(crate) words: [u128; 2048],
+    pub words: [u128; 2048],
 }
 
 impl Verdicts {
