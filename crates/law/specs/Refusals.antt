@@ -37,3 +37,11 @@ abbrev pub number_of_tell : TellRefusal → ℕ
 number_of_tell tell'.NoState = 5
 number_of_tell tell'.Alike = 7
 number_of_tell tell'.TooLong = 8
+
+-- What is missing for reach as it is for rule, and for tell as it is for alike.
+abbrev pub reach_for_rule : RuleRefusal → ReachRefusal
+reach_for_rule rule'.NoFormula = reach'.NoFormula
+reach_for_rule rule'.NoState = reach'.NoState
+
+abbrev pub tell_for_alike : AlikeRefusal → TellRefusal
+tell_for_alike alike'.NoState = tell'.NoState

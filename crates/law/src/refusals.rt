@@ -1,8 +1,6 @@
-// Why a call of the bench refuses: one type for each call, each case with its number and its place.
-//
-// Both are read by methods: `From` would not say which of the two is meant, and a trait over the types would be as long.
+// Why a call of the bench refuses: one type for each call, each case with its number, and that of enter with its place.
 ghost use Rattle.std.specs.Prelude.{◌≡◌};
-ghost use Rattle.law.specs.Refusals.{number_of_enter, place_of_enter, number_of_rule, number_of_reach, number_of_alike, number_of_tell};
+ghost use Rattle.law.specs.Refusals.{number_of_enter, place_of_enter, number_of_rule, number_of_reach, number_of_alike, number_of_tell, reach_for_rule, tell_for_alike};
 
 #[derive(Clone, Copy, PartialEq, Eq, Debug)]
 pub enum EnterRefusal {
@@ -42,6 +40,7 @@ pub enum TellRefusal {
     TooLong,
 }
 
+// The numbers are read by methods: `u8::from(refusal)` would not say that it is the number of the call's refusals.
 impl EnterRefusal {
     pub fn number(self) -> u8
         ensures { result ≡ number_of_enter self }
@@ -53,7 +52,7 @@ impl EnterRefusal {
         }
     }
 
-    // The place of the unsound entry in the list, else 0.
+    // The place of the unsound entry in the list, else 0, as a refusal without a place has it.
     pub fn place(self) -> usize
         ensures { result ≡ place_of_enter self }
     {
@@ -105,6 +104,29 @@ impl TellRefusal {
             TellRefusal::NoState => 5,
             TellRefusal::Alike => 7,
             TellRefusal::TooLong => 8,
+        }
+    }
+}
+
+// A formula or a state is missing for reach as it is for rule.
+impl From<RuleRefusal> for ReachRefusal {
+    ghost from_gives = { λ e r. r ≡ reach_for_rule e };
+
+    fn from(refusal: RuleRefusal) -> ReachRefusal {
+        match refusal {
+            RuleRefusal::NoFormula => ReachRefusal::NoFormula,
+            RuleRefusal::NoState => ReachRefusal::NoState,
+        }
+    }
+}
+
+// A state is missing for tell as it is for alike.
+impl From<AlikeRefusal> for TellRefusal {
+    ghost from_gives = { λ e r. r ≡ tell_for_alike e };
+
+    fn from(refusal: AlikeRefusal) -> TellRefusal {
+        match refusal {
+            AlikeRefusal::NoState => TellRefusal::NoState,
         }
     }
 }
