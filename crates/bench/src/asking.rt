@@ -1,5 +1,5 @@
 // The calls of a settled bench.
-ghost use Rattle.std.specs.Prelude.{◌≡◌, ◌<◌, ◌≤◌, ◌⊎◌, ◌↔◌, IsTrue, MatchBool};
+ghost use Rattle.std.specs.Prelude.{◌≡◌, ◌<◌, ◌↔◌, length, IsTrue, MatchResult};
 ghost use Rattle.hml.specs.Bisimilarity.{Bisimilar};
 ghost use Rattle.law.specs.Answers.{Ruled, Reached, Compared, Told};
 ghost use Rattle.law.specs.History.Call.{rule as ruling, reach as reaching, alike as comparing, tell as telling};
@@ -17,12 +17,28 @@ use runs::searching::search;
 use telling::writing::tell;
 
 impl<L: System, R: System> SettledBench<L, R> {
-    // Whether both are states of the bench.
-    fn has_both(&self, s: u16, t: u16) -> bool
-        ensures { let n = (system L.System.means R.System.means self.now).states in MatchBool result ((s < n) × (t < n)) ((n ≤ s) ⊎ (n ≤ t)) }
+    // Tests a formula and a state, as rule and reach do.
+    fn test_formula(&self, formula: u8, state: u16) -> Result<(), RuleRefusal>
+        ensures { let m = system L.System.means R.System.means self.now in MatchResult result (λ _. (formula < length self.now.entries) × (formula < 128) × (state < m.states)) (λ e. Ruled m self.now.entries formula state (Err e)) }
+    {
+        if formula >= self.held.len() {
+            return Err(RuleRefusal::NoFormula);
+        }
+        if state >= self.pair.states() {
+            return Err(RuleRefusal::NoState);
+        }
+        Ok(())
+    }
+
+    // Tests two states, as alike and tell do.
+    fn test_states(&self, s: u16, t: u16) -> Result<(), AlikeRefusal>
+        ensures { let m = system L.System.means R.System.means self.now in MatchResult result (λ _. (s < m.states) × (t < m.states)) (λ e. Compared m s t (Err e)) }
     {
         let states = self.pair.states();
-        s < states && t < states
+        if s >= states || t >= states {
+            return Err(AlikeRefusal::NoState);
+        }
+        Ok(())
     }
 
     // Whether two states are bisimilar: of one class.
@@ -37,12 +53,7 @@ impl<L: System, R: System> SettledBench<L, R> {
         ensures answer { Ruled (system L.System.means R.System.means self.now) self.now.entries formula state result }
         ensures lawful { SettledTakes L.System.means R.System.means self.now self.now (ruling formula state result) }
     {
-        if formula >= self.held.len() {
-            return Err(RuleRefusal::NoFormula);
-        }
-        if state >= self.pair.states() {
-            return Err(RuleRefusal::NoState);
-        }
+        self.test_formula(formula, state)?;
         Ok(self.inner.verdicts.holds(formula, state))
     }
 
@@ -58,12 +69,7 @@ impl<L: System, R: System> SettledBench<L, R> {
         ensures answer { Reached (system L.System.means R.System.means self.old) self.old.entries formula state path.old path.new result }
         ensures lawful { SettledTakes L.System.means R.System.means self.old self.new (reaching formula state path.old path.new result) }
     {
-        if formula >= self.held.len() {
-            return Err(ReachRefusal::NoFormula);
-        }
-        if state >= self.pair.states() {
-            return Err(ReachRefusal::NoState);
-        }
+        self.test_formula(formula, state)?;
         search(
             &self.pair,
             &self.inner.verdicts,
@@ -80,9 +86,7 @@ impl<L: System, R: System> SettledBench<L, R> {
         ensures answer { Compared (system L.System.means R.System.means self.now) s t result }
         ensures lawful { SettledTakes L.System.means R.System.means self.now self.now (comparing s t result) }
     {
-        if !self.has_both(s, t) {
-            return Err(AlikeRefusal::NoState);
-        }
+        self.test_states(s, t)?;
         Ok(self.one_class(s, t))
     }
 
@@ -92,9 +96,7 @@ impl<L: System, R: System> SettledBench<L, R> {
         ensures answer { Told (system L.System.means R.System.means self.now) s t lines.old lines.new result }
         ensures lawful { SettledTakes L.System.means R.System.means self.now self.now (telling s t lines.old lines.new result) }
     {
-        if !self.has_both(s, t) {
-            return Err(TellRefusal::NoState);
-        }
+        self.test_states(s, t)?;
         if self.one_class(s, t) {
             return Err(TellRefusal::Alike);
         }

@@ -2,11 +2,8 @@ use Rattle.std.proofs.Common.{refl, rules}
 use Rattle.bench.proofs.Taking.{ruling_takes}
 use Rattle.bench.proofs.settled_bench.SettledBench.rule.Goals as goal
 
-pub returns-then-formula-len-clause-lawful : goal.returns-then-formula-len-clause-lawful
-returns-then-formula-len-clause-lawful g c = ruling_takes g.L.System.means g.R.System.means g.met.L.System.limits g.met.R.System.limits _ _ refl _ _ _ (search rules)
-
-pub returns-then-state-states-clause-lawful : goal.returns-then-state-states-clause-lawful
-returns-then-state-states-clause-lawful g c = ruling_takes g.L.System.means g.R.System.means g.met.L.System.limits g.met.R.System.limits _ _ refl _ _ _ (search rules)
+pub returns-in_err-test_formula-clause-lawful : goal.returns-in_err-test_formula-clause-lawful
+returns-in_err-test_formula-clause-lawful g c = ruling_takes g.L.System.means g.R.System.means g.met.L.System.limits g.met.R.System.limits _ _ refl _ _ _ (search rules)
 
 pub returns-clause-lawful : goal.returns-clause-lawful
 returns-clause-lawful g c = ruling_takes g.L.System.means g.R.System.means g.met.L.System.limits g.met.R.System.limits _ _ refl _ _ _ (search rules)

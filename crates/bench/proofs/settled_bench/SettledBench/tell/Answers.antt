@@ -8,8 +8,8 @@ use Rattle.bench.proofs.Answering.{told}
 use Rattle.bench.proofs.Taking.{telling_takes}
 use Rattle.bench.proofs.settled_bench.SettledBench.tell.Goals as goal
 
-pub returns-then-not-has_both-clause-lawful : goal.returns-then-not-has_both-clause-lawful
-returns-then-not-has_both-clause-lawful g c = telling_takes g.L.System.means g.R.System.means g.met.L.System.limits g.met.R.System.limits _ _ refl _ _ _ _ _ (search rules)
+pub returns-in_err-test_states-clause-lawful : goal.returns-in_err-test_states-clause-lawful
+returns-in_err-test_states-clause-lawful g c = telling_takes g.L.System.means g.R.System.means g.met.L.System.limits g.met.R.System.limits _ _ refl _ _ _ _ _ (search rules)
 
 pub returns-then-one_class-clause-lawful : goal.returns-then-one_class-clause-lawful
 returns-then-one_class-clause-lawful g c = telling_takes g.L.System.means g.R.System.means g.met.L.System.limits g.met.R.System.limits _ _ refl _ _ _ _ _ (search rules)
