@@ -63,9 +63,8 @@ impl<T: Copy, const MOST: usize> Bounded<T, MOST> {
         if more.len() > MOST - self.items.len() {
             return Err(Full);
         }
-        for item in more {
-            self.items.push_reserved(*item);
-        }
+        // The room is there, so this takes no memory.
+        self.items.extend_from_slice(more).unwrap();
         Ok(())
     }
 

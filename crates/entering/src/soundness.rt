@@ -22,10 +22,7 @@ fn is_sound(n: usize, entry: Entry) -> bool
 pub(crate) fn first_unsound(list: &[Entry]) -> Option<usize>
     ensures { MatchOption result (AllSound list.now) (λ i. (i < length list.now) × SoundBelow i list.now × ¬ Sound i (slice_index_or list.now i True)) }
 {
-    for (i, entry) in list.iter().enumerate() {
-        if !is_sound(i, *entry) {
-            return Some(i);
-        }
-    }
-    None
+    list.iter()
+        .enumerate()
+        .find_map(|(n, entry)| (!is_sound(n, *entry)).then_some(n))
 }

@@ -2,16 +2,16 @@
 ghost use Rattle.std.specs.Prelude.{◌≡◌, ◌≤◌, length};
 
 use crate::graph::Graph;
+use std::ops::Range;
 
-// The ways of a state from `next` up to `end`, the number of all of them.
+// The ways of a state that have the numbers, up to the last of all its ways.
 #[derive(Drop)]
 pub struct Ways<'a, G: Graph> {
     graph: &'a G,
     state: u16,
-    next: u16,
-    end: u16,
-    ghost within: { next ≤ end },
-    ghost all: { end ≡ length ((G.Graph.means graph.now).ways state) },
+    numbers: Range<u16>,
+    ghost within: { numbers.start ≤ numbers.end },
+    ghost all: { numbers.end ≡ length ((G.Graph.means graph.now).ways state) },
 }
 
 impl<'a, G: Graph> Ways<'a, G> {
@@ -24,8 +24,7 @@ impl<'a, G: Graph> Ways<'a, G> {
         Ways {
             graph,
             state,
-            next: 0,
-            end: graph.ways(state),
+            numbers: 0..graph.ways(state),
         }
     }
 }
@@ -41,11 +40,8 @@ impl<'a, G: Graph> Iterator for Ways<'a, G> {
     ghost remaining = { item_count (to_come G.Graph) };
 
     fn next(&mut self) -> Option<Option<(u8, u16)>> {
-        if self.next == self.end {
-            return None;
-        }
-        let way = self.graph.way(self.state, self.next);
-        self.next += 1;
-        Some(way)
+        self.numbers
+            .next()
+            .map(|k| self.graph.way(self.state, k))
     }
 }
