@@ -4,6 +4,6 @@
 mod distances;
 mod exploring;
 mod layers;
+mod search;
 pub mod searching;
 mod walking;
-mod wanted;
