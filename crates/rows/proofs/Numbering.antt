@@ -58,3 +58,9 @@ digits_answered f (Some s) small plain = λ n. (
   (λ e. let is : s.number ≡ n = cc in subst (IsState f) is (writes f s.number small plain)),
   (λ h. ap (λ k. Some k) (sym small.1 ∙ (written f n h).0.1)),
 )
+
+-- No bytes write no state.
+pub none_written : (f : List ℕ) (n : ℕ) → f ≡ [] → IsState f n → ⊥
+none_written f n none h =
+    let small : n < 2 ^ 64 = omega (arith, h.0) in
+    omega (arith, decimal_nonempty n small, ap length (sym h.1 ∙ none))

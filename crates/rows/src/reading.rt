@@ -23,9 +23,9 @@ impl Columns {
     fn row_of(self, fields: &Fields) -> Option<Row>
         ensures { RowHeld self (held fields.now) result }
     {
-        let from = State::read(fields.part(self.from))?;
-        let action = Action::read(fields.part(self.act))?;
-        let to = State::read(fields.part(self.to))?;
+        let from = State::read(fields.part(self.from)?)?;
+        let action = Action::read(fields.part(self.act)?)?;
+        let to = State::read(fields.part(self.to)?)?;
         Some(Row { from, action, to })
     }
 

@@ -19,6 +19,7 @@ impl<'a> Fields<'a> {
     {
         let mut parts = ArrayVec::new();
         let mut cursor = Cursor::new(line);
+        // by the cursor, as every reader goes over the bytes of a sheet
         loop {
             parts.try_push(cursor.until(COMMA)).ok()?;
             if !cursor.pass(COMMA) {
@@ -35,11 +36,11 @@ impl<'a> Fields<'a> {
         self.parts.len()
     }
 
-    // Field k, counted from 0, and no bytes where there is none.
-    pub(crate) fn part(&self, k: usize) -> &'a [u8]
-        ensures { result.now ≡ slice_index_or (held self.now) k [] }
+    // Field k, counted from 0; none where they are not so many.
+    pub(crate) fn part(&self, k: usize) -> Option<&'a [u8]>
+        ensures { MatchOption result (length (held self.now) ≤ k) (λ part. (k < length (held self.now)) × (part.now ≡ slice_index_or (held self.now) k [])) }
     {
-        self.parts.get(k).copied().unwrap_or_default()
+        self.parts.get(k).copied()
     }
 
     // The field that alone has the name.
