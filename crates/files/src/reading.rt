@@ -2,7 +2,7 @@
 ghost use Rattle.std.specs.Prelude.{◌≡◌, ◌≤◌, [], length, IfOk, OnErr};
 ghost use Rattle.files.specs.Refusals.{number_of};
 
-use crate::sheet_file::{FileRefusal, SheetFile};
+use crate::sheet_file::{FileRefusal, MOST_BYTES, SheetFile};
 use bounded::Bounded;
 use std::alloc::{AllocError, Global};
 use std::error::Error;
@@ -10,10 +10,8 @@ use std::fmt;
 use std::fs::File;
 use std::io::Read;
 
-const MOST_BYTES: usize = 16384;
-
 impl FileRefusal {
-    // The number of the refusal. A refusal has a text too, so `From` would not say what it is turned into.
+    // Read by a method: `u8::from(refusal)` would not say that it is the number of a refusal.
     pub fn number(self) -> u8
         ensures { result ≡ number_of self }
     {
@@ -50,7 +48,7 @@ impl SheetFile {
         self.bytes.as_slice()
     }
 
-    // Reads the rest of a file, as long as it fits. Each read but the last gives a byte.
+    // Reads the rest of a file, as long as it fits. Each read but the last gives a byte at least.
     fn fill(&mut self, file: &mut File) -> Result<(), FileRefusal> {
         let mut chunk = [0; 1024];
         // Not by `read_to_end`, which may take more memory, and reports the want of it as a file that cannot be read.

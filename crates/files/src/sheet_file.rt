@@ -1,10 +1,12 @@
 // The bytes of a file that holds a sheet.
 use bounded::Bounded;
 
+pub(crate) const MOST_BYTES: usize = 16384;
+
 // At most 16,384 bytes, with the memory for all of them.
 #[derive(Drop)]
 pub struct SheetFile {
-    pub(crate) bytes: Bounded<u8, 16384>,
+    pub(crate) bytes: Bounded<u8, MOST_BYTES>,
 }
 
 // Why a file is refused.

@@ -6,9 +6,7 @@ ghost use Rattle.rows.specs.Digits.{Small, Unpadded};
 ghost use Rattle.rows.specs.Format.{IsState};
 ghost use Rattle.rows.specs.Held.{state_number};
 
-use crate::state::State;
-
-const STATES: u16 = 1024;
+use crate::state::{STATES, State};
 
 impl State {
     // The state that a field writes in decimal; none where it writes none.
@@ -49,7 +47,7 @@ fn one_more(number: u16, digit: u8) -> Option<u16>
     (next < STATES).then_some(next)
 }
 
-// The state whose number is written by digits, of any length; zeros in front count for nothing.
+// The state whose number is written by digits, of any length; zeros in front do not change it.
 fn digits(field: &[u8]) -> Option<State>
     ensures { MatchOption result ((n : ℕ) → Small field.now n → ⊥) (λ s. Small field.now s.number) }
 {

@@ -20,7 +20,7 @@ pub enum Refusal {
     TooMany(usize),
 }
 
-// A refusal has a number, a place and a text, so `From` would not say which of them is meant.
+// Read by methods: `From` would not say whether the number or the place of a refusal is meant.
 impl Refusal {
     pub fn number(self) -> u8
         ensures { result ≡ number_of self }

@@ -7,8 +7,7 @@ ghost use Rattle.table.specs.Limiting.{table_limits};
 
 use crate::table::Table;
 use lts::System;
-
-const STATES: u16 = 1024;
+use rows::state::STATES;
 
 impl Table {
     // The moves out of a state; none where it is too large.
