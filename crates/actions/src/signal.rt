@@ -9,7 +9,7 @@ pub struct Signal {
     ghost below: { number < 26 },
 }
 
-// A byte may be a number or a letter, which `TryFrom` and `From` would not tell apart, so each has a function.
+// A byte that is read or written is a number or a letter, which `TryFrom` and `From` would not tell apart.
 impl Signal {
     // The signal of this number; none from 26 on.
     pub fn new(number: u8) -> Option<Self>

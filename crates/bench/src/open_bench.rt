@@ -8,7 +8,8 @@ pub struct OpenBench<L, R> {
     pub(crate) held: Held,
 }
 
-// To those who call it, it is its two systems and the entries held.
+// To those who call it, it is its two systems and the entries held. `SettledBench` says the same of the same fields:
+// with an open bench inside, each of its calls would open two values for one.
 impl<L, R> Model for OpenBench<L, R> {
     ghost use Rattle.bench.specs.Bench.{Bench};
 

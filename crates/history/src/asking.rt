@@ -26,7 +26,7 @@ fn ask<L: System, R: System>(bench: &mut SettledBench<L, R>, question: &mut Ques
     }
 }
 
-// Asks each question in turn.
+// Asks each question in turn: a loop of its own, as `enter_all` says.
 pub(crate) fn ask_all<L: System, R: System>(
     bench: &mut SettledBench<L, R>,
     questions: &mut [Question],

@@ -4,6 +4,7 @@ use hml::line::Line;
 use hml::step::Step;
 use law::refusals::{AlikeRefusal, EnterRefusal, ReachRefusal, RuleRefusal, TellRefusal};
 
+// Each call in a struct of its own, as each says by its fields what it is handed.
 #[derive(Drop)]
 pub struct Entering {
     pub list: Vec<Entry>,

@@ -23,7 +23,7 @@ pub(crate) fn run_round<L: System, R: System>(
     bench
 }
 
-// Runs rounds, and reopens the bench after each.
+// Runs rounds, and reopens the bench after each: a loop of its own, as `enter_all` says.
 pub(crate) fn run_rounds<L: System, R: System>(
     mut bench: OpenBench<L, R>,
     rounds: &mut [Round],

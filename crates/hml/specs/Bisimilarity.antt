@@ -7,7 +7,7 @@ abbrev pub Matched : Lts → (ℕ → ℕ → Type 0) → ℕ → ℕ → Type 0
 Matched m R s t = (a u : ℕ) → Move m s a u → (v : ℕ) × Move m t a v × R u v
 
 -- A relation in which each move of either is matched by the other. It has its values in Bool, since a contract
--- speaks of small types only; the states of a system are finitely many, so no relation on them is lost.
+-- states facts of small types only; the states of a system are finitely many, so no relation on them is lost.
 abbrev pub Bisimulation : Lts → (ℕ → ℕ → Bool) → Type 0
 Bisimulation m R = (s t : ℕ) → T (R s t) → Matched m (λ u v. T (R u v)) s t × Matched m (λ u v. T (R v u)) t s
 

@@ -1,4 +1,4 @@
--- Worked examples, on which the definitions are tried. Assumes nothing.
+-- Worked examples of the definitions. Assumes nothing.
 use Rattle.std.specs.Prelude.{ℕ, List, [], ◌∷◌, length, Some, None, slice_index_or}
 use Rattle.lts.specs.Lts.{Lts, Way}
 use Rattle.lts.specs.Joined.{joined}

@@ -34,7 +34,7 @@ pub fn distinguishing_formulas_are_defined()
     ensures distinguish { LinesDistinguish }
 {}
 
-// The definitions give what was worked out by hand.
+// The definitions give the facts of the worked examples.
 pub fn worked_examples_hold()
     ensures facts { WorkedFactsHold }
     ensures traces { TracesDoNotDecide }

@@ -69,7 +69,7 @@ pub data History (m : Lts) : Phase → List Call → Type 0 where
 abbrev pub Stands : List Call → Call → List Call → Type 0
 Stands h e earlier = (later : List Call) × (h ≡ later ++ e ∷ earlier)
 
--- The law of the kept bench: what holds of all answers of a history.
+-- The law of the bench: what holds of all answers of a history.
 pub record Lawful (m : Lts) (h : List Call) : Type 0 where
   -- each answer or refusal is the defined one for the entries held at its call
   pub as_defined : (e : Call) (earlier : List Call) → Stands h e earlier → AsDefined m (entries_held earlier) e

@@ -40,7 +40,7 @@ pub enum TellRefusal {
     TooLong,
 }
 
-// The numbers are read by methods: `u8::from(refusal)` would not say that it is the number of the call's refusals.
+// Read by methods: `u8::from(refusal)` would not say that it is the number of a refusal.
 impl EnterRefusal {
     pub fn number(self) -> u8
         ensures { result ≡ number_of_enter self }

@@ -6,9 +6,9 @@ ghost use Rattle.lts.specs.Lts.{Lts, Limits, way_at};
 
 // A transition system with numbered states, each with a list of ways out of it.
 //
-// To implement it, say by `means` which system a value stands for, and answer the four questions for that system.
-// The law `limits` is owed too: from 1 to 1,024 states, the start among them, at most 4,095 ways a state, actions up
-// to 52, and targets that are states. Where it rests on the size of a field, state that in a ghost field.
+// To implement it, say by `means` which system a value stands for, and answer the four questions for that system. The
+// law `limits` has to be proved too: from 1 to 1,024 states, the start among them, at most 4,095 ways a state, actions
+// up to 52, and targets that are states. Where it rests on the size of a field, state that in a ghost field.
 //
 // No question refuses, and none changes the value: a state or a way that is too large has no ways, or is none.
 pub trait System {

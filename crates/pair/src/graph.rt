@@ -5,7 +5,7 @@ ghost use Rattle.pair.specs.Wide.{Wide};
 
 // A transition system with numbered states, as large as two systems side by side. It is asked as a `System` is.
 //
-// A trait beside `System`: with one over both, whoever implements a `System` would owe two impls and two laws.
+// A trait beside `System`: with one over both, whoever implements a `System` would have to give two impls and two laws.
 pub trait Graph {
     ghost means: { Self → Lts };
 

@@ -40,8 +40,6 @@ impl<'a, G: Graph> Iterator for Ways<'a, G> {
     ghost remaining = { item_count (to_come G.Graph) };
 
     fn next(&mut self) -> Option<Option<(u8, u16)>> {
-        self.numbers
-            .next()
-            .map(|k| self.graph.way(self.state, k))
+        self.numbers.next().map(|k| self.graph.way(self.state, k))
     }
 }

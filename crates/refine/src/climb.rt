@@ -10,8 +10,8 @@ ghost use Rattle.refine.specs.Climbs.{IsName};
 use crate::classes::{Classes, Parting};
 
 impl Classes {
-    // The name of the state's class: 0 for a state over 2,047. Not none: names are only compared, of states that are
-    // tested before, so it would be taken apart for nothing.
+    // The name of the state's class: 0 for a state over 2,047. Not none, since whoever asks has tested the state, or
+    // goes through the places of the array.
     pub fn name(&self, state: u16) -> u16
         ensures value { result ≡ slice_index self.now.names state }
         ensures past { 2048 ≤ state → result ≡ 0 }
@@ -19,7 +19,7 @@ impl Classes {
         self.names.get(usize::from(state)).copied().unwrap_or(0)
     }
 
-    // How a name parted.
+    // How a name parted: as 0 at depth 0 for a name over 2,047, as `name` has it.
     pub(crate) fn parting(&self, name: u16) -> Parting
         ensures { result ≡ parting_at self.now.partings name }
     {

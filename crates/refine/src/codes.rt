@@ -15,7 +15,8 @@ pub struct Code {
 }
 
 impl Code {
-    // The code of a move, where names has the names of the classes.
+    // The code of a move, where names has the names of the classes. It takes any move, since a bound on it would stand
+    // in the contract of each caller.
     pub fn of(step: (u8, u16), names: &[u16; STATES]) -> Code
         ensures { result.number ≡ code_of names.now step }
     {

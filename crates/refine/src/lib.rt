@@ -17,7 +17,7 @@ pub mod marks;
 mod round;
 mod signature;
 
-// The classes of the system. Each round finds the classes to one depth more, until they stay.
+// The classes of the system. Each round finds the classes to one depth more, until they stay the same.
 pub fn refine<G: Graph>(graph: &G) -> Classes
     ensures { Refined (G.Graph.means graph.now) result }
 {

@@ -4,8 +4,8 @@ ghost use Rattle.std.specs.Prelude.{◌≡◌, ℕ, ◌≤◌, slice_index};
 use crate::codes::{CODES, Code};
 use std::mem;
 
-// The codes that are marked have the stamp, and no number here is above it. An array and no set of codes, since settling
-// allocates nothing.
+// The codes that are marked have the stamp, and no number here is above it. An array and no set of codes, since
+// settling and telling allocate nothing.
 #[derive(Drop)]
 pub struct Marks {
     pub(crate) stamps: [u32; CODES],

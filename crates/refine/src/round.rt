@@ -14,7 +14,10 @@ use pair::graph::Graph;
 
 // What a round has found of the states so far: the names of their classes to the next depth, which become those of the
 // next level as they stand, the weights of their signatures, and in order the states that are names and were none.
-// `Placed` says of it how far the round has come; it is no ghost field, since it speaks of the level too.
+// Arrays by state, since settling allocates nothing.
+//
+// `Placed` says of it how far the round has come. It is no ghost field, since it speaks of the level too, which each of
+// its methods would have to take from the round in place of `self`.
 #[derive(Drop)]
 pub(crate) struct Round {
     pub(crate) next: [u16; STATES],

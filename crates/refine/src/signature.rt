@@ -12,7 +12,7 @@ use pair::graph::Graph;
 use pair::ways::Ways;
 
 impl Code {
-    // The weight of a code, from 1 on, scattered so that two signatures seldom weigh the same.
+    // The weight of a code, from 1 on, such that two signatures seldom weigh the same.
     fn weight(self) -> u64
         ensures { result ≡ weight_of self.number }
     {

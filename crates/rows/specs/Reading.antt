@@ -1,4 +1,4 @@
--- What the reader knows while it goes through a sheet. Assumes nothing.
+-- What holds while the rows of a sheet are read. Assumes nothing.
 use Rattle.std.specs.Prelude.{◌≡◌, ℕ, ◌≤◌, true, List, [], ◌++◌, map, length, Some, None, Option, Ok, Err, Result}
 use Rattle.std.specs.Borrow.{Bor}
 use Rattle.sheet.specs.Lines.{lines_of}

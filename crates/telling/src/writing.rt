@@ -55,7 +55,7 @@ pub fn tell<G: Graph>(
     ensures { WhereUnlike (G.Graph.means graph.now) classes.now s t (Told (G.Graph.means graph.now) s t lines.old lines.new result) }
 {
     let written = Classified { graph, classes }.write_lines(s, t, lines);
-    // no `inspect_err`: the proof would not see what its closure does to the lines
+    // no `inspect_err`: its contract does not say what the closure does to the lines
     if written.is_err() {
         lines.fill(BLANK);
     }

@@ -26,9 +26,9 @@ value_of m P (Or i j) s = P i s || P j s
 value_of m P (May a i) s = list_any (goes a (P i)) (m.ways s)
 value_of m P (Must a i) s = list_all (stays a (P i)) (m.ways s)
 
--- The old words became the new ones as the entry was judged, as number n, at the states below a bound.
-pub record EntryJudged (m : Lts) (e : Entry) (n bound : ℕ) (old new : List ℕ) : Type 0 where
-  -- a sound entry has its value by the old words
-  pub value : Sound n e → (s : ℕ) → s < bound → says new n s ≡ value_of m (says old) e s
+-- The words before became those after as the entry was judged, as number n, at the states below a bound.
+pub record EntryJudged (m : Lts) (e : Entry) (n bound : ℕ) (before after : List ℕ) : Type 0 where
+  -- a sound entry has its value by the words before
+  pub value : Sound n e → (s : ℕ) → s < bound → says after n s ≡ value_of m (says before) e s
   -- every other number keeps its verdicts
-  pub others : (i s : ℕ) → (i ≢ n) → says new i s ≡ says old i s
+  pub others : (i s : ℕ) → (i ≢ n) → says after i s ≡ says before i s

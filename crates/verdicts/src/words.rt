@@ -18,7 +18,8 @@ impl Verdicts {
         Verdicts { words: [0; 2048] }
     }
 
-    // What the words say of the formula at the state. A number that is too large has the verdict false.
+    // What the words say of the formula at the state. A number that is too large has the verdict false, as whoever asks
+    // has tested both.
     pub fn holds(&self, formula: u8, state: u16) -> bool
         ensures { result ≡ says self.now.words formula state }
     {
