@@ -85,7 +85,8 @@ fn first_unlike<G: Graph>(
         .find(|step| !marks.has(Code::of(*step, names)))
 }
 
-// A system, and the classes of its states.
+// A system, and the classes of its states. The two states of a line go as two parameters, as a call of a bench hands
+// them in, and a line may turn them round.
 #[derive(Drop)]
 pub(crate) struct Classified<'a, G> {
     pub(crate) graph: &'a G,

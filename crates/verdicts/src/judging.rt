@@ -12,7 +12,8 @@ use pair::graph::Graph;
 use pair::ways::Ways;
 
 impl Verdicts {
-    // Whether the way is a move by the action to a state where the formula holds.
+    // Whether the way is a move by the action to a state where the formula holds. A function, as `stays` is, so that a
+    // clause can name what the closure over the ways tests; the action and the formula are what an entry names.
     fn goes(&self, way: Option<(u8, u16)>, action: u8, formula: u8) -> bool
         ensures { result ≡ goes action (says self.now.words formula) way }
     {
