@@ -9,7 +9,7 @@ pub struct OpenBench<L, R> {
 }
 
 // To those who call it, it is its two systems and the entries held. `SettledBench` says the same of the same fields:
-// with an open bench inside, each of its calls would open two values for one.
+// with an open bench inside, the proof of each of its calls would take two models apart in place of one.
 impl<L, R> Model for OpenBench<L, R> {
     ghost use Rattle.bench.specs.Bench.{Bench};
 

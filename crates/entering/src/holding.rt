@@ -29,6 +29,7 @@ impl Held {
         ensures value { result ≡ length self.now }
         ensures bound { result ≤ 128 }
     {
+        // by `as`, as it fits: `try_from` would give an error that cannot come
         self.entries.len() as u8
     }
 }

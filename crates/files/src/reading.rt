@@ -71,6 +71,7 @@ impl SheetFile {
         self.bytes.clear();
         let mut file = File::open(rt, path).map_err(|_| FileRefusal::Unreadable)?;
         let read = self.fill(&mut file);
+        // no `inspect_err`: its contract does not say what the closure does to the bytes
         if read.is_err() {
             self.bytes.clear();
         }

@@ -7,8 +7,9 @@ pub enum Modality {
     Must,
 }
 
-// One line: `count` lines from `first` on stand under it. May is followed by all of them, must by any of them. The form
-// is set, as callers lend the memory for lines: the action is its number, and a line is named by its place.
+// One line: `count` lines from `first` on stand under it, and `first` is 0 where there are none. May is followed by all
+// of them, must by any of them. The form is set, as callers lend the memory for lines: the action is its number, and a
+// line is named by its place.
 #[derive(Clone, Copy, PartialEq, Eq, Debug)]
 pub struct Line {
     pub modality: Modality,

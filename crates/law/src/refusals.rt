@@ -40,7 +40,8 @@ pub enum TellRefusal {
     TooLong,
 }
 
-// Read by methods: `u8::from(refusal)` would not say that it is the number of a refusal.
+// Read by methods: `u8::from(refusal)` would not say that it is the number of a refusal. By matches and no
+// discriminants, so that the number of a case stands where it is read, for each of the five types.
 impl EnterRefusal {
     pub fn number(self) -> u8
         ensures { result ≡ number_of_enter self }
@@ -52,7 +53,7 @@ impl EnterRefusal {
         }
     }
 
-    // The place of the unsound entry in the list, else 0, as a refusal without a place has it.
+    // The place of the unsound entry in the list, else 0: a refusal is handed out as a number and a place.
     pub fn place(self) -> usize
         ensures { result ≡ place_of_enter self }
     {

@@ -4,7 +4,7 @@ ghost use Rattle.std.specs.Prelude.{◌≡◌, ◌≤◌, length};
 use crate::graph::Graph;
 use std::ops::Range;
 
-// The ways of a state that have the numbers, up to the last of all its ways.
+// The ways of a state from `numbers.start` up to its last.
 #[derive(Drop)]
 pub struct Ways<'a, G: Graph> {
     graph: &'a G,

@@ -8,8 +8,8 @@ use Rattle.lts.specs.Lts.{Way}
 abbrev pub moves : List Way → List (ℕ × ℕ)
 moves ws = flat_map option_to_list ws
 
--- The code of a move by its action, up to 52, and the name of its target's class, below 2,048, as one number. What is no
--- such move has the last code.
+-- The code of a move by its action and the name of its target's class, as one number: with actions up to 52 and names
+-- below 2,048 no two have the same. An action over 52 has the last code.
 abbrev pub code_of : List ℕ → ℕ × ℕ → ℕ
 code_of names p = min (p.0 * 2048 + slice_index names p.1) 108544
 

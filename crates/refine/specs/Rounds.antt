@@ -21,7 +21,7 @@ pub record Placed (m : Lts) (r : ℕ) (names : List ℕ) (s : ℕ) (w : Round) :
   pub fresh : (j : ℕ) → j < array_vec_len w.fresh → Fresh names w.next s (slice_index w.fresh.items j)
   pub listed : (t : ℕ) → Fresh names w.next s t → (j : ℕ) × (j < array_vec_len w.fresh) × (slice_index w.fresh.items j ≡ t)
 
--- The name u and the weight of s are entered, which had the name c, and s is listed where it is u and was not c.
+-- State s, which had the name c, gets the name u and the weight, and is listed where u is s and c is not.
 pub record Entered (w : Round) (s c u weight : ℕ) (w' : Round) : Type 0 where
   pub name : slice_index w'.next s ≡ u
   pub names : (t : ℕ) → t < s → slice_index w'.next t ≡ slice_index w.next t

@@ -3,7 +3,8 @@
 // The most states of a graph, and so the most classes.
 pub const STATES: usize = 2048;
 
-// The name from which a name parted, and the depth at which the two first disagree.
+// The name from which a name parted, and the depth at which the two first disagree. Name 0 and what is no name have 0
+// at depth 0, at which nothing parts.
 #[derive(Clone, Copy, Default)]
 pub(crate) struct Parting {
     pub(crate) parent: u16,

@@ -10,8 +10,8 @@ ghost use Rattle.refine.specs.Climbs.{IsName};
 use crate::classes::{Classes, Parting};
 
 impl Classes {
-    // The name of the state's class: 0 for a state over 2,047. Not none, since whoever asks has tested the state, or
-    // goes through the places of the array.
+    // The name of the state's class: 0 for a state over 2,047. A bench tests the states that it asks of, and here the
+    // places of the array are gone through, so a none would be taken apart and never met.
     pub fn name(&self, state: u16) -> u16
         ensures value { result ≡ slice_index self.now.names state }
         ensures past { 2048 ≤ state → result ≡ 0 }

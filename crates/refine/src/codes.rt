@@ -4,7 +4,7 @@ ghost use Rattle.refine.specs.Codes.{code_of};
 
 use crate::classes::STATES;
 
-// The codes of 53 actions with 2,048 names each, and one more for what is no move of a system.
+// The codes of 53 actions with 2,048 names each, and one more for actions over 52.
 pub(crate) const CODES: usize = 53 * STATES + 1;
 
 // A number for a move by its action and the name of its target's class.

@@ -29,7 +29,8 @@ impl Classes {
     pub fn names_at(&self, depth: u16, names: &mut [u16; STATES])
         ensures { (m : Lts) → Wide m → Refined m self.now → Classed m depth names.new }
     {
-        // the names below are read while the list is written, so the states are gone through by number
+        // the names below are read while the list is written, so the states are gone through by number; their count
+        // fits by its value, so it is cast by `as`
         for s in 0..STATES as u16 {
             let leader = self.leader(s, depth);
             names[usize::from(s)] = if leader < s {

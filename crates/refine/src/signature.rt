@@ -23,7 +23,8 @@ impl Code {
 }
 
 impl<'a, G: Graph> Level<'a, G> {
-    // Marks the signature of the state, and weighs it.
+    // Marks the signature of the state, and weighs it. The weight is no part of the marks, which telling uses without
+    // one.
     pub(crate) fn sign(&self, state: u16, marks: &mut Marks) -> u64
         ensures { Signed self.now.names (moves ((G.Graph.means self.now.graph.now).ways state)) marks.new result }
     {

@@ -51,6 +51,7 @@ fn one_more(number: u16, digit: u8) -> Option<u16>
 fn digits(field: &[u8]) -> Option<State>
     ensures { MatchOption result ((n : ℕ) → Small field.now n → ⊥) (λ s. Small field.now s.number) }
 {
+    // no `parse`, which takes a `+`, and no number that is longer than a machine word
     let mut number = 0;
     for b in field {
         number = one_more(number, *b)?;

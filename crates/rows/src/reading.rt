@@ -120,6 +120,7 @@ impl Rows {
     {
         self.items.clear();
         let read = self.read_sheet(sheet);
+        // no `inspect_err`: its contract does not say what the closure does to the rows
         if read.is_err() {
             self.items.clear();
         }

@@ -19,7 +19,7 @@ impl<'a> Fields<'a> {
     {
         let mut parts = ArrayVec::new();
         let mut cursor = Cursor::new(line);
-        // by the cursor, as every reader goes over the bytes of a sheet
+        // by the cursor, as `Lines` goes over a sheet
         loop {
             parts.try_push(cursor.until(COMMA)).ok()?;
             if !cursor.pass(COMMA) {

@@ -39,6 +39,7 @@ impl System for Table {
     }
 
     fn ways(&self, state: u16) -> u16 {
+        // by `as`, as it fits: `try_from` would give an error that cannot come
         self.moves(state).len() as u16
     }
 

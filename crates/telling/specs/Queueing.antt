@@ -3,7 +3,7 @@ use Rattle.std.specs.Prelude.{◌≡◌, ℕ, ◌+◌, ◌<◌, List, ◌++◌, 
 use Rattle.telling.specs.declared.queue.Queue.{Queue}
 use Rattle.telling.specs.declared.writing.TooLong.{TooLong}
 
--- All stand behind, or they are too many for the limit, which stays.
+-- All stand behind, and the limit stays; or they are too many for it.
 abbrev pub Queued : {A : Type 0} → Queue → List (ℕ × ℕ) → Queue → Result A TooLong → Type 0
 Queued before more after (Ok x) = (after.pairs.items ≡ before.pairs.items ++ more) × (after.limit ≡ before.limit)
 Queued before more after (Err long) = before.limit < length before.pairs.items + length more

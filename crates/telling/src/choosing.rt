@@ -100,7 +100,8 @@ impl<'a, G: Graph> Classified<'a, G> {
         ensures { WhereUnlike (G.Graph.means self.now.graph.now) self.now.classes.now s t (Chooses (G.Graph.means self.now.graph.now) s t result) }
     {
         let mut names = [0; STATES];
-        // for states that are bisimilar the depth and the move are 0, and nothing is promised of them
+        // for states that are bisimilar the depth and the move are 0, of which nothing is promised: `tell` tests
+        // nothing, and a none would only be handed on to it
         let depth = self
             .classes
             .parts_at(s, t)

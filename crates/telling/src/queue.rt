@@ -32,7 +32,8 @@ impl Queue {
         }
     }
 
-    // How many pairs there are, those whose lines are written among them.
+    // How many pairs there are, those whose lines are written among them. By `as`, as it fits: `try_from` would give an
+    // error that cannot come.
     pub(crate) fn len(&self) -> u16
         ensures { result ≡ array_vec_len self.now.pairs }
     {

@@ -18,8 +18,8 @@ impl Verdicts {
         Verdicts { words: [0; 2048] }
     }
 
-    // What the words say of the formula at the state. A number that is too large has the verdict false, as whoever asks
-    // has tested both.
+    // What the words say of the formula at the state. A number that is too large has the verdict false: a bench tests
+    // what it asks and judges sound lists, so a none would be taken apart and never met.
     pub fn holds(&self, formula: u8, state: u16) -> bool
         ensures { result ≡ says self.now.words formula state }
     {
