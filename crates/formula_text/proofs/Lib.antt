@@ -1,0 +1,5 @@
+pub mod Passing
+pub mod Acting
+pub mod Sizes
+pub mod Joining
+pub mod Opening

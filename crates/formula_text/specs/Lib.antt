@@ -1,0 +1,5 @@
+pub mod Listing
+pub mod Refusals
+pub mod Answers
+pub mod Readers
+pub mod Phrases
