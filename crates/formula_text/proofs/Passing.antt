@@ -30,6 +30,15 @@ is_other x b e differs is = differs (ap (λ o. unwrap_or o b) (sym e ∙ is))
 pub is_none : {o : Option ℕ} (b : ℕ) → o ≡ None → o ≡ Some b → ⊥
 is_none b e is = absurd (false≢true (ap is_some (sym e ∙ is)))
 
+-- Whether a byte is there.
+pub is_there : (o : Option ℕ) → is_some o ≡ true → (b : ℕ) × (o ≡ Some b)
+is_there None h = absurd (false≢true h)
+is_there (Some b) h = (b, refl)
+
+pub is_away : (o : Option ℕ) → is_some o ≡ false → o ≡ None
+is_away None h = refl
+is_away (Some b) h = absurd (false≢true (sym h))
+
 -- What comes of the bytes is the same where the text, the limit and the place are.
 pub out_same : (a b : Reader) (σ : State) (p : ℕ) → b.limit ≡ a.limit → text b ≡ text a → at b ≡ p → out_at a.limit (text a) σ p ≡ out b σ
 out_same a b σ p limit same on = sym (ap (λ l. out_at l (text b) σ (at b)) limit ∙ ap (λ s. out_at a.limit s σ (at b)) same ∙ ap (λ i. out_at a.limit (text a) σ i) on)

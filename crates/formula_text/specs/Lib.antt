@@ -3,3 +3,4 @@ pub mod Refusals
 pub mod Answers
 pub mod Readers
 pub mod Phrases
+pub mod Wholes
