@@ -1,11 +1,10 @@
 -- Actions are read as the machine reads them. Assumes nothing.
-use Rattle.std.proofs.Common.{◌≡◌, ℕ, ◌+◌, ◌<◌, ◌≤◌, Some, refl, sym, ap, ◌∙◌, arith}
+use Rattle.std.proofs.Common.{◌≡◌, ℕ, ◌+◌, ◌<◌, ◌≤◌, Some, refl, ap, ◌∙◌, arith}
 use Rattle.hml.specs.declared.line.Modality.{Modality}
 use Rattle.grammar.specs.Grammar.{unary}
-use Rattle.grammar.specs.Machine.{Ctx, act, hat, shut, State, await, dead, next}
+use Rattle.grammar.specs.Machine.{Ctx, act, hat, shut, await, next}
 use Rattle.grammar.proofs.Moves.{no_move, next_receives, next_sends}
-use Rattle.formula_text.specs.Refusals.{refused}
-use Rattle.formula_text.specs.Readers.{at, out, Spaced, Passed}
+use Rattle.formula_text.specs.Readers.{at, Spaced, Passed}
 use Rattle.formula_text.specs.Phrases.{here, At, NoLetter, ActionRead, Stops}
 use Rattle.formula_text.specs.declared.reader.Reader.{Reader}
 use Rattle.formula_text.specs.declared.refusal.TextRefusal.TheVariants.{Malformed}
@@ -14,7 +13,7 @@ use Rattle.formula_text.proofs.Passing.{crossing, within, at_spaced, lost}
 -- Spaces, and then a byte that leads to the state after the action.
 acted : {a s b : Reader} (mark n : ℕ) → Spaced a s → here s ≡ Some mark → Passed s b 0 → ((m : Modality) (k : Ctx unary) → next (await (act m) k) mark ≡ await (shut m n) k) → ActionRead a b n
 acted {a} {s} {b} mark n spaced stands passed leads = record {
-  same = record { text = passed.same.text ∙ spaced.same.text; limit = passed.same.limit ∙ spaced.same.limit; begun = omega (arith, passed.same.begun, spaced.same.begun); };
+  same = record { text = passed.same.text ∙ spaced.same.text; limit = passed.same.limit ∙ spaced.same.limit; begun = omega (arith, passed.same.begun, spaced.same.begun) };
   entries = passed.entries ∙ spaced.entries;
   on = omega (arith, passed.on, spaced.on);
   goes = λ m d low k h.

@@ -1,23 +1,25 @@
 -- A whole text is read as its verdict says. Assumes nothing.
-use Rattle.std.proofs.Common.{◌≡◌, ℕ, ◌+◌, ◌<◌, ◌≤◌, ◌-◌, List, [], ◌++◌, length, replicate, min, Some, None, refl, sym, ap, ◌∙◌, ⊎_elim, subst, arith}
+use Rattle.std.proofs.Common.{◌≡◌, ℕ, ◌<◌, ◌≤◌, ◌-◌, List, [], ◌++◌, length, replicate, min, Some, None, refl, sym, ap, ◌∙◌, ⊎_elim, subst, arith}
 use Rattle.std.proofs.lemmas.Option.{slice_get_within, slice_get_cases, get_or_from_slice_get}
 use Rattle.std.proofs.lemmas.Bool.{cases_eq}
 use Rattle.hml.specs.Logic.{Formula}
 use Rattle.formula.specs.declared.entry.Entry.{Entry}
 use Rattle.formula.specs.declared.entry.Entry.TheVariants.{True}
 use Rattle.formula.specs.Entries.{formula_at, AllSound}
-use Rattle.grammar.specs.Grammar.{ors, size}
+use Rattle.grammar.specs.Grammar.{size}
 use Rattle.grammar.specs.Order.{good, bad}
 use Rattle.grammar.specs.Verdict.{Out, Is, Verdict}
-use Rattle.grammar.specs.Machine.{Ctx, top, State, dead, start, next, read, out_at}
+use Rattle.grammar.specs.Machine.{top, dead, start, next, out_at}
 use Rattle.grammar.proofs.Moves.{no_move}
-use Rattle.grammar.proofs.Verdicts.{exact, accepted, accepted_size}
+use Rattle.grammar.proofs.Verdicts.{unique, exact, accepted, accepted_size}
+use Rattle.grammar.proofs.Written.{written}
+use Rattle.grammar.specs.Writing.{formula_text, AllActions}
 use Rattle.grammar.proofs.Walking.{out_start, out_dead, out_end}
 use Rattle.formula_text.specs.Listing.{last_of, listed}
 use Rattle.formula_text.specs.Refusals.{refused}
 use Rattle.formula_text.specs.Readers.{text, at, held, out}
 use Rattle.formula_text.specs.Phrases.{here, Phrase, Stops, before_ors, after_ors, PastOrs}
-use Rattle.formula_text.specs.Answers.{Accepted}
+use Rattle.formula_text.specs.Answers.{limit_of, Accepted}
 use Rattle.formula_text.specs.Wholes.{Unread, Whole}
 use Rattle.formula_text.proofs.Sizes.{length_listed}
 use Rattle.formula_text.proofs.Meaning.{size_some, listed_stands, listed_sound, padded, text_actions}
@@ -35,9 +37,9 @@ module _ {s : List ℕ} {places : ℕ} {a : Reader} (unread : Unread s places a)
   verdict : (o : Out) → out a (before_ors top) ≡ o → Verdict (min 128 places) s o
   verdict o comes =
       (exact (min 128 places) s o).1
-          (out_start (min 128 places) s
-           ∙ sym (ap (λ l. out_at l (text a) start (at a)) unread.limit ∙ ap (λ t. out_at (min 128 places) t start (at a)) unread.text ∙ ap (out_at (min 128 places) s start) unread.place)
-           ∙ comes)
+      (out_start (min 128 places) s
+      ∙ sym (ap (λ l. out_at l (text a) start (at a)) unread.limit ∙ ap (λ t. out_at (min 128 places) t start (at a)) unread.text ∙ ap (out_at (min 128 places) s start) unread.place)
+      ∙ comes)
 
   pub whole_stops : (e : TextRefusal) → Stops a 0 before_ors e → Verdict (min 128 places) s (refused e)
   whole_stops e stops = verdict (refused e) (stops top (tt, sym unread.begun, refl))
@@ -68,6 +70,10 @@ whole_fits {s} {places} b w =
     let least : min 128 places ≤ places = omega arith in
     omega (arith, few, least, ap length w.entries, length_listed [] w.formula)
 
+-- What is accepted is that formula.
+is_text : (limit : ℕ) (s : List ℕ) (f : Formula) → Verdict limit s (good f) → Is s f
+is_text limit s f v = (accepted limit s f).0 ((exact limit s (good f)).0 v)
+
 -- With the places behind them holding true, they are what is answered.
 pub whole_answer : {s : List ℕ} (before after : List Entry) (b : Reader) → Whole s (length before) b → after ≡ held b ++ replicate (length before - length (held b)) True → Accepted s before after (length (held b))
 whole_answer {s} before after b w is =
@@ -75,7 +81,7 @@ whole_answer {s} before after b w is =
     let es = listed [] f in
     let count : length (held b) ≡ size f = omega (arith, ap length w.entries, length_listed [] f) in
     let full : after ≡ es ++ replicate (length before - length (held b)) True = is ∙ ap (λ x. x ++ replicate (length before - length (held b)) True) w.entries in
-    let rest = padded (length before - length (held b)) es (listed_sound [] f (λ k l. absurd (none_below k l)) (text_actions (is_text s f w.verdict))) in
+    let rest = padded (length before - length (held b)) es (listed_sound [] f (λ k l. absurd (none_below k l)) (text_actions (is_text (min 128 (length before)) s f w.verdict))) in
     let same : length (held b) - 1 ≡ last_of es = omega (arith, ap length w.entries) in
     record {
       formula = f;
@@ -89,5 +95,6 @@ whole_answer {s} before after b w is =
     none_below : (k : ℕ) → k < 0 → ⊥
     none_below k l = omega (arith, l)
 
-    is_text : (s : List ℕ) (f : Formula) → Verdict (min 128 (length before)) s (good f) → Is s f
-    is_text s f v = (accepted (min 128 (length before)) s f).0 ((exact (min 128 (length before)) s (good f)).0 v)
+-- The formula that is read from the text of a formula is that one.
+pub written_again : {s : List ℕ} {before after : List Entry} {n : ℕ} → Accepted s before after n → (f : Formula) → AllActions f → s ≡ formula_text f → formula_at after (n - 1) ≡ f
+written_again {s} {before} x f actions is = x.means ∙ unique s x.formula f (is_text (limit_of before) s x.formula x.verdict) (subst (λ t. Is t f) (sym is) (written f actions))

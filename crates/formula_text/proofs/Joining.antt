@@ -1,14 +1,13 @@
 -- Phrases joined by & and | are read as the machine reads them. Assumes nothing.
-use Rattle.std.proofs.Common.{◌≡◌, ℕ, ◌+◌, ◌<◌, ◌≤◌, Some, slice_get, refl, sym, ap, ◌∙◌, arith}
+use Rattle.std.proofs.Common.{◌≡◌, ℕ, ◌≤◌, Some, slice_get, refl, sym, ap, ◌∙◌, arith}
 use Rattle.std.proofs.lemmas.Option.{slice_get-get_or}
 use Rattle.hml.specs.Logic.{Formula}
 use Rattle.hml.specs.Logic.Formula.{both, either}
 use Rattle.grammar.specs.Grammar.{ands, ors}
-use Rattle.grammar.specs.Machine.{Ctx, first, bar, lone, amp, want, State, await, have, done, begun}
+use Rattle.grammar.specs.Machine.{Ctx, bar, amp, want, State, await, have, done}
 use Rattle.grammar.proofs.Walking.{out_regrouped}
 use Rattle.formula.specs.declared.entry.Entry.{Entry}
 use Rattle.formula.specs.declared.entry.Entry.TheVariants.{And, Or}
-use Rattle.formula_text.specs.Refusals.{refused}
 use Rattle.formula_text.specs.Readers.{text, at, out, Spaced, Passed}
 use Rattle.formula_text.specs.Phrases.{here, At, Put, Phrase, Stops, before_unary, before_ands, before_ors, after_ors, PastAnds}
 use Rattle.formula_text.specs.declared.reader.Reader.{Reader}
@@ -27,10 +26,11 @@ and_spaced {b} low x spaced k h = x.goes k h ∙ spaced.goes (have x.formula k) 
 -- The & behind it leads to the phrase that it joins.
 and_opens : {a b m p : Reader} {d w : ℕ} → d ≤ 16 → (x : Phrase a b d w before_ands have) → Spaced b m → here m ≡ Some 38 → Passed m p 1 → (k : Ctx ands) → At a d (before_ands k) → (At p d (before_unary (amp x.formula k))) × (out a (before_ands k) ≡ out p (before_unary (amp x.formula k)))
 and_opens {m} {p} {d} low x spaced stands passed k h =
-    let there : At p d (before_unary (amp x.formula k)) = (tt, omega (arith, passed.same.begun, spaced.same.begun, x.same.begun, h.1), h.2) in
-    (there,
-     and_spaced low x spaced k h
-     ∙ crossing (have x.formula k) (await want (amp x.formula k)) 38 passed stands refl (tt, omega (arith, there.1, p.few, passed.same.limit), omega (arith, h.2, low)))
+    let there : At p d (before_unary (amp x.formula k)) = (tt, omega (arith, passed.same.begun, spaced.same.begun, x.same.begun, h.1), h.2) in (
+      there,
+      and_spaced low x spaced k h
+          ∙ crossing (have x.formula k) (await want (amp x.formula k)) 38 passed stands refl (tt, omega (arith, there.1, p.few, passed.same.limit), omega (arith, h.2, low)),
+    )
 
 pub and_many : {a b m : Reader} {d w : ℕ} → d ≤ 16 → Phrase a b d w before_ands have → Spaced b m → here m ≡ Some 38 → m.begun ≡ m.limit → Stops a d before_ands (TooMany (at m))
 and_many {m} low x spaced stands full k h =
@@ -57,9 +57,10 @@ and_more low same x spaced stands passed y put = record {
 -- The | behind a phrase of or leads to the phrase that it joins.
 or_opens : {a b p : Reader} {d w : ℕ} → d ≤ 16 → (x : Phrase a b d w before_ors after_ors) → here b ≡ Some 124 → Passed b p 1 → (k : Ctx ors) → At a d (before_ors k) → (At p d (before_ands (bar x.formula k))) × (out a (before_ors k) ≡ out p (before_ands (bar x.formula k)))
 or_opens {p} {d} low x stands passed k h =
-    let there : At p d (before_ands (bar x.formula k)) = (tt, omega (arith, passed.same.begun, x.same.begun, h.1), h.2) in
-    (there,
-     x.goes k h ∙ crossing (after_ors x.formula k) (before_ands (bar x.formula k)) 124 passed stands refl (tt, omega (arith, there.1, p.few, passed.same.limit), omega (arith, h.2, low)))
+    let there : At p d (before_ands (bar x.formula k)) = (tt, omega (arith, passed.same.begun, x.same.begun, h.1), h.2) in (
+      there,
+      x.goes k h ∙ crossing (after_ors x.formula k) (before_ands (bar x.formula k)) 124 passed stands refl (tt, omega (arith, there.1, p.few, passed.same.limit), omega (arith, h.2, low)),
+    )
 
 pub or_many : {a b : Reader} {d w : ℕ} → Phrase a b d w before_ors after_ors → here b ≡ Some 124 → b.begun ≡ b.limit → Stops a d before_ors (TooMany (at b))
 or_many {b} x stands full k h =
@@ -72,7 +73,7 @@ or_stops e low same x stands passed stops k h = let o = or_opens low x stands pa
 pub regroups : (r : Reader) (f g : Formula) (k : Ctx ors) → PastAnds r → out r (have g (bar f k)) ≡ out r (after_ors (either f g) k)
 regroups r f g k past =
     out_regrouped r.limit (text r) g (bar f k) (at r)
-        (λ l. ((λ is. past.0 (slice_get-get_or (text r) (at r) 0 l ∙ ap Some is)), (λ is. past.1 (slice_get-get_or (text r) (at r) 0 l ∙ ap Some is))))
+    (λ l. ((λ is. past.0 (slice_get-get_or (text r) (at r) 0 l ∙ ap Some is)), (λ is. past.1 (slice_get-get_or (text r) (at r) 0 l ∙ ap Some is))))
 
 -- An entry that is put changes nothing of which byte follows.
 pub past_put : {q r : Reader} {e : Entry} {n : ℕ} → Put q r e n → PastAnds q → PastAnds r

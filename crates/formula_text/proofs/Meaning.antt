@@ -1,5 +1,5 @@
 -- What the entries of a formula stand for, and that they are sound. Assumes nothing.
-use Rattle.std.proofs.Common.{◌≡◌, ℕ, zero, suc, ◌+◌, ◌-◌, ◌<◌, ◌≤◌, List, [], ◌∷◌, ◌++◌, length, replicate, get_or, sym, refl, ap, ap₂, ◌∙◌, subst, ⊎_elim, arith}
+use Rattle.std.proofs.Common.{◌≡◌, ℕ, zero, suc, ◌+◌, ◌<◌, ◌≤◌, List, [], ◌∷◌, ◌++◌, length, replicate, get_or, sym, refl, ap, ap₂, ◌∙◌, subst, ⊎_elim, arith}
 use Rattle.std.proofs.lemmas.List.{append-nil, append_assoc, length-append, get_or_append_left, get_or-append-add}
 use Rattle.std.proofs.lemmas.Bool.{cases_lt}
 use Rattle.hml.specs.Logic.{Formula}
@@ -96,12 +96,12 @@ listed_sound es (both f g) sound h =
     let x = listed es f in
     let y = listed x g in
     sound_behind y (And (last_of x) (last_of y)) (listed_sound x g (listed_sound es f sound h.0) h.1)
-        (omega (arith, length_listed es f, length_listed x g, size_some f), omega (arith, length_listed es f, length_listed x g, size_some f))
+    (omega (arith, length_listed es f, length_listed x g, size_some f), omega (arith, length_listed es f, length_listed x g, size_some f))
 listed_sound es (either f g) sound h =
     let x = listed es f in
     let y = listed x g in
     sound_behind y (Or (last_of x) (last_of y)) (listed_sound x g (listed_sound es f sound h.0) h.1)
-        (omega (arith, length_listed es f, length_listed x g, size_some f), omega (arith, length_listed es f, length_listed x g, size_some f))
+    (omega (arith, length_listed es f, length_listed x g, size_some f), omega (arith, length_listed es f, length_listed x g, size_some f))
 listed_sound es (may a f) sound h = sound_behind (listed es f) (May a (last_of (listed es f))) (listed_sound es f sound h.1) (h.0, omega (arith, length_listed es f, size_some f))
 listed_sound es (must a f) sound h = sound_behind (listed es f) (Must a (last_of (listed es f))) (listed_sound es f sound h.1) (h.0, omega (arith, length_listed es f, size_some f))
 
@@ -110,9 +110,10 @@ pub padded : (n : ℕ) (es : List Entry) → AllSound es → AllSound (es ++ rep
 padded zero es sound = (subst AllSound (sym (append-nil es)) sound, λ k l. ap (λ x. formula_at x k) (append-nil es))
 padded (suc n) es sound =
     let next = padded n (es ++ True ∷ []) (sound_behind es True sound tt) in
-    let same = append_assoc es (True ∷ []) (replicate n True) in
-    (subst AllSound same next.0,
-     λ k l. ap (λ x. formula_at x k) (sym same) ∙ next.1 k (omega (arith, l, length-append es (True ∷ []))) ∙ earlier es True k l)
+    let same = append_assoc es (True ∷ []) (replicate n True) in (
+      subst AllSound same next.0,
+      λ k l. ap (λ x. formula_at x k) (sym same) ∙ next.1 k (omega (arith, l, length-append es (True ∷ []))) ∙ earlier es True k l,
+    )
 
 -- The actions of a text are 0 to 52.
 letter_low : {s : List ℕ} {c : ℕ} → Letter s c → c < 26

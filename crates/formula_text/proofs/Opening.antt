@@ -5,8 +5,8 @@ use Rattle.hml.specs.Logic.{Formula}
 use Rattle.hml.specs.declared.line.Modality.{Modality}
 use Rattle.hml.specs.declared.line.Modality.TheVariants.{May, Must}
 use Rattle.formula.specs.declared.entry.Entry.{Entry}
-use Rattle.grammar.specs.Grammar.{unary, ors, modal_of, size}
-use Rattle.grammar.specs.Machine.{Ctx, within as inside, first, lone, under, want, half, act, shut, State, await, have, dead, done, next, opener, closer, initial, named, begun_at, depth_at, Alive, Within}
+use Rattle.grammar.specs.Grammar.{unary, modal_of, size}
+use Rattle.grammar.specs.Machine.{Ctx, within as inside, under, half, act, shut, await, done, next, opener, closer, initial, named}
 use Rattle.grammar.proofs.Moves.{no_move}
 use Rattle.grammar.proofs.Counting.{within_done}
 use Rattle.grammar.proofs.Walking.{out_deep}
@@ -182,7 +182,7 @@ led {a} {s} {d} low spaced k h =
 pub read_led : {a s : Reader} {d : ℕ} (b : Reader) (r : Result ℕ TextRefusal) → d ≤ 16 → Spaced a s → Read s b d before_unary done r → Read a b d before_unary done r
 read_led b (Ok n) low spaced x = record {
   formula = x.formula;
-  same = record { text = x.same.text ∙ spaced.same.text; limit = x.same.limit ∙ spaced.same.limit; begun = omega (arith, x.same.begun, spaced.same.begun); };
+  same = record { text = x.same.text ∙ spaced.same.text; limit = x.same.limit ∙ spaced.same.limit; begun = omega (arith, x.same.begun, spaced.same.begun) };
   entries = x.entries ∙ ap (λ es. listed es x.formula) spaced.entries;
   number = x.number;
   on = omega (arith, x.on, spaced.on);

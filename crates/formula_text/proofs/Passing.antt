@@ -7,7 +7,7 @@ use Rattle.sheet.specs.Parts.{begins}
 use Rattle.grammar.specs.Order.{bad}
 use Rattle.grammar.specs.Machine.{State, dead, next, begun, ending, out_at, Alive, Within}
 use Rattle.grammar.proofs.Walking.{out_byte, out_dead, out_end, out_many}
-use Rattle.formula_text.specs.Readers.{text, at, held, out, Same, Spaced, Passed}
+use Rattle.formula_text.specs.Readers.{text, at, out, Spaced, Passed}
 use Rattle.formula_text.specs.Phrases.{here, At}
 use Rattle.formula_text.specs.declared.reader.Reader.{Reader}
 
@@ -52,7 +52,7 @@ crossing {a} {b} σ τ mark passed here leads within =
 -- No space is passed.
 pub spaced_none : (a : Reader) → Spaced a a
 spaced_none a = record {
-  same = record { text = refl; limit = refl; begun = omega arith; };
+  same = record { text = refl; limit = refl; begun = omega arith };
   entries = refl;
   on = omega arith;
   goes = λ σ stays within. refl;
@@ -61,7 +61,7 @@ spaced_none a = record {
 -- One space more.
 pub spaced_more : {a b c : Reader} → Spaced a b → slice_get (text b) (at b) ≡ Some 32 → Passed b c 0 → Spaced a c
 spaced_more {a} {b} {c} spaced here passed = record {
-  same = record { text = passed.same.text ∙ spaced.same.text; limit = passed.same.limit ∙ spaced.same.limit; begun = omega (arith, passed.same.begun, spaced.same.begun); };
+  same = record { text = passed.same.text ∙ spaced.same.text; limit = passed.same.limit ∙ spaced.same.limit; begun = omega (arith, passed.same.begun, spaced.same.begun) };
   entries = passed.entries ∙ spaced.entries;
   on = omega (arith, passed.on, spaced.on);
   goes = λ σ stays within. spaced.goes σ stays within ∙ crossing σ σ 32 passed here stays (rw spaced.same.limit within);

@@ -1,10 +1,10 @@
 -- How many entries a formula is written as, and that there is room for its own. Assumes nothing.
-use Rattle.std.proofs.Common.{◌≡◌, ℕ, ◌+◌, ◌<◌, List, [], ◌∷◌, ◌++◌, length, sym, ap, ◌∙◌, arith}
+use Rattle.std.proofs.Common.{◌≡◌, ℕ, ◌+◌, ◌<◌, List, [], ◌∷◌, ◌++◌, length, ap, arith}
 use Rattle.std.proofs.lemmas.List.{length-append}
 use Rattle.hml.specs.Logic.{Formula}
 use Rattle.hml.specs.Logic.Formula.{tru, fls, both, either, may, must}
 use Rattle.formula.specs.declared.entry.Entry.{Entry}
-use Rattle.formula.specs.declared.entry.Entry.TheVariants.{True, False, And, Or, May, Must}
+use Rattle.formula.specs.declared.entry.Entry.TheVariants.{And, Or, May, Must}
 use Rattle.grammar.specs.Grammar.{Level, size}
 use Rattle.grammar.specs.Machine.{Ctx, State}
 use Rattle.formula_text.specs.Listing.{last_of, listed}

@@ -1,11 +1,10 @@
 -- What a reader does with a phrase, as the machine of formula text sees it. Assumes nothing.
-use Rattle.std.specs.Prelude.{◌≡◌, ℕ, ◌+◌, ◌<◌, ◌≤◌, List, [], ◌∷◌, ◌++◌, length, Some, slice_get, Option, Result, MatchResult, OnOk}
+use Rattle.std.specs.Prelude.{◌≡◌, ℕ, ◌<◌, ◌≤◌, [], ◌∷◌, ◌++◌, Some, slice_get, Option, Result, MatchResult, OnOk}
 use Rattle.hml.specs.Logic.{Formula}
 use Rattle.hml.specs.declared.line.Modality.{Modality}
 use Rattle.formula.specs.declared.entry.Entry.{Entry}
 use Rattle.grammar.specs.Grammar.{Level, unary, ands, ors, size}
-use Rattle.grammar.specs.Machine.{Ctx, first, lone, want, act, shut, State, await, have, done, begun, depth, Alive}
-use Rattle.sheet.specs.Cursors.{place}
+use Rattle.grammar.specs.Machine.{Ctx, first, lone, want, act, shut, State, await, have, begun, depth, Alive}
 use Rattle.formula_text.specs.Listing.{last_of, listed}
 use Rattle.formula_text.specs.Refusals.{refused}
 use Rattle.formula_text.specs.Readers.{text, at, held, out, Same}

@@ -1,5 +1,5 @@
 -- A reader as the machine of formula text sees it. Assumes nothing.
-use Rattle.std.specs.Prelude.{◌≡◌, ℕ, ◌+◌, ◌<◌, ◌≤◌, List, length}
+use Rattle.std.specs.Prelude.{◌≡◌, ℕ, ◌+◌, ◌≤◌, List}
 use Rattle.formula.specs.declared.entry.Entry.{Entry}
 use Rattle.grammar.specs.Verdict.{Out}
 use Rattle.grammar.specs.Machine.{State, next, out_at, Within}

@@ -1,5 +1,8 @@
 // A whole text, read into a list that is lent.
-ghost use Rattle.std.specs.Prelude.{ℕ, List};
+ghost use Rattle.std.specs.Prelude.{◌≡◌, ℕ, ◌-◌, List, IfOk};
+ghost use Rattle.hml.specs.Logic.{Formula};
+ghost use Rattle.formula.specs.Entries.{formula_at};
+ghost use Rattle.grammar.specs.Writing.{formula_text, AllActions};
 ghost use Rattle.formula_text.specs.Answers.{Answered};
 ghost use Rattle.formula_text.specs.Wholes.{WholeRead, Unread};
 
@@ -38,8 +41,10 @@ impl<'a> Reader<'a> {
 
 // Reads a text into a list of entries, and answers how many entries its formula has. They stand first in the list, parts
 // before wholes and left before right, and every other place holds true; so does every place after a refusal.
+// Where a formula is read from the text that it is written as, it is that formula.
 pub fn read(text: &[u8], list: &mut [Entry]) -> Result<u8, TextRefusal>
-    ensures { Answered text.now list.old list.new result }
+    ensures answer { Answered text.now list.old list.new result }
+    ensures written { (f : Formula) → AllActions f → text.now ≡ formula_text f → IfOk result (λ n. formula_at list.new (n - 1) ≡ f) }
 {
     let mut reader = Reader::new(text, list.len());
     list.fill(Entry::True);

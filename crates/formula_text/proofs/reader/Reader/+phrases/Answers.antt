@@ -1,4 +1,4 @@
-use Rattle.std.proofs.Common.{rules, ◌≡◌, ◌<◌, Some, ◌∙◌, sym, ap, subst, arith}
+use Rattle.std.proofs.Common.{rules, ◌<◌, Some, ◌∙◌, sym, ap, subst, arith}
 use Rattle.std.proofs.lemmas.Option.{slice_get_within}
 use Rattle.std.proofs.lemmas.Result.{err_from_is_err_and}
 use Rattle.formula_text.specs.Readers.{text, at}
@@ -31,9 +31,10 @@ ands-put-whole-requires t c =
 
 pub ands-loop-self-preserved : goal.ands-loop-self-preserved
 ands-loop-self-preserved t c =
-    let stands = is_mark c.next_mark.result 38 (sym c.eq.ensures ∙ c.loop-self-test.true) in
-    (and_more c.requires c.loop-self.invariant.1 c.loop-self.invariant.0 c.next_mark.ensures.spaced (sym c.next_mark.ensures.value ∙ stands) c.in_ok-begin.ensures c.in_ok-part.ensures.read c.put-whole.ensures,
-     c.in_ok-part.ensures.depth ∙ c.loop-self.invariant.1)
+    let stands = is_mark c.next_mark.result 38 (sym c.eq.ensures ∙ c.loop-self-test.true) in (
+      and_more c.requires c.loop-self.invariant.1 c.loop-self.invariant.0 c.next_mark.ensures.spaced (sym c.next_mark.ensures.value ∙ stands) c.in_ok-begin.ensures c.in_ok-part.ensures.read c.put-whole.ensures,
+      c.in_ok-part.ensures.depth ∙ c.loop-self.invariant.1,
+    )
 
 pub ors-returns-in_err-begin-clause-read : goal.ors-returns-in_err-begin-clause-read
 ors-returns-in_err-begin-clause-read t c =
@@ -55,9 +56,11 @@ ors-put-whole-requires t c =
 
 pub ors-loop-self-preserved : goal.ors-loop-self-preserved
 ors-loop-self-preserved t c =
-    let stands = is_mark c.peek.result 124 (sym c.eq.ensures ∙ c.loop-self-test.true) in
-    (or_more c.requires c.loop-self.invariant.2 c.loop-self.invariant.0 (sym c.peek.ensures ∙ stands) c.in_ok-begin.ensures c.in_ok-part.ensures.read.0 c.in_ok-part.ensures.read.1 c.put-whole.ensures,
-     past_put c.put-whole.ensures c.in_ok-part.ensures.read.1, c.in_ok-part.ensures.depth ∙ c.loop-self.invariant.2)
+    let stands = is_mark c.peek.result 124 (sym c.eq.ensures ∙ c.loop-self-test.true) in (
+      or_more c.requires c.loop-self.invariant.2 c.loop-self.invariant.0 (sym c.peek.ensures ∙ stands) c.in_ok-begin.ensures c.in_ok-part.ensures.read.0 c.in_ok-part.ensures.read.1 c.put-whole.ensures,
+      past_put c.put-whole.ensures c.in_ok-part.ensures.read.1,
+      c.in_ok-part.ensures.depth ∙ c.loop-self.invariant.2,
+    )
 
 pub modal-returns-in_err-begin-clause-read : goal.modal-returns-in_err-begin-clause-read
 modal-returns-in_err-begin-clause-read t c =
@@ -131,11 +134,11 @@ pub unary-returns-in_default-clause-read : goal.unary-returns-in_default-clause-
 unary-returns-in_default-clause-read t c =
     let next = c.next_mark.ensures in
     elim c.in_default.branch [
-      unary-in_default-via-in-Some+in_default w ↦
+      | unary-in_default-via-in-Some+in_default w ↦
           let is = sym next.value ∙ w.in_default.is in
           let test = w.in_default.field-0-test in
           rw c.malformed.ensures (none_begins c.requires next.spaced next.other (is_other _ 116 (search rules) test.0.0.0.0.1) (is_other _ 102 (search rules) test.0.0.0.1) (is_other _ 60 (search rules) test.0.0.1) (is_other _ 91 (search rules) test.0.1) (is_other _ 40 (search rules) test.1))
-    | unary-in_default-via-in_default w ↦
+      | unary-in_default-via-in_default w ↦
           let is = sym next.value ∙ w.in_default.is in
           rw c.malformed.ensures (none_begins c.requires next.spaced next.other (is_none 116 is) (is_none 102 is) (is_none 60 is) (is_none 91 is) (is_none 40 is))
     ]

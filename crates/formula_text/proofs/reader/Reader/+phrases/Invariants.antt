@@ -1,8 +1,7 @@
-use Rattle.std.proofs.Common.{ℕ, ◌+◌, ◌-◌, ◌*◌, length, ◌≡◌}
+use Rattle.std.proofs.Common.{◌+◌, ◌-◌, ◌*◌, length, ◌≡◌}
 use Rattle.grammar.specs.Machine.{have}
 use Rattle.formula_text.specs.Readers.{text, at}
 use Rattle.formula_text.specs.Phrases.{Phrase, before_ands, before_ors, after_ors, PastAnds}
-use Rattle.formula_text.specs.declared.reader.Reader.{Reader}
 use Rattle.formula_text.proofs.reader.Reader.+phrases.Given as goal
 
 abbrev pub decreases-modal : goal.decreases-modal

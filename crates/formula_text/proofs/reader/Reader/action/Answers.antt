@@ -1,4 +1,4 @@
-use Rattle.std.proofs.Common.{rules, ◌≡◌, ◌∙◌, sym, ap, Some}
+use Rattle.std.proofs.Common.{rules, ◌∙◌, sym, ap, Some}
 use Rattle.std.proofs.lemmas.Result.{err_from_is_err_and}
 use Rattle.formula_text.proofs.Acting.{silent, receives, sends, no_action, no_sent}
 use Rattle.formula_text.proofs.Passing.{is_other, is_none}
@@ -22,10 +22,10 @@ returns-in_err-letter-in_default c =
     let e = c.in_err-letter-in_default.ensures in
     let next = c.next_mark.ensures in
     elim c.in_default.branch [
-      in_default-via-in-Some+in_default w ↦
+      | in_default-via-in-Some+in_default w ↦
           let is = sym next.value ∙ w.in_default.is in
           rw (p.1, p.2, e.0) (no_action next.spaced next.other (is_other _ 42 (search rules) w.in_default.field-0-test.0.1) (is_other _ 94 (search rules) w.in_default.field-0-test.1) e.1)
-    | in_default-via-in_default w ↦
+      | in_default-via-in_default w ↦
           let is = sym next.value ∙ w.in_default.is in
           rw (p.1, p.2, e.0) (no_action next.spaced next.other (is_none 42 is) (is_none 94 is) e.1)
     ]

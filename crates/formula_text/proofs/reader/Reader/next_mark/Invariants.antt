@@ -1,4 +1,4 @@
-use Rattle.std.proofs.Common.{ℕ, ◌-◌, length}
+use Rattle.std.proofs.Common.{◌-◌, length}
 use Rattle.formula_text.specs.Readers.{text, at, Spaced}
 use Rattle.formula_text.proofs.reader.Reader.next_mark.Given as goal
 

@@ -1,4 +1,4 @@
-use Rattle.std.proofs.Common.{◌≡◌, ◌∙◌, sym, ap, Some}
+use Rattle.std.proofs.Common.{◌∙◌, sym}
 use Rattle.std.proofs.lemmas.Result.{err_from_is_err_and}
 use Rattle.formula_text.proofs.Passing.{is_there, is_away}
 use Rattle.formula_text.proofs.Ending.{whole_stops, whole_read, not_ended}
