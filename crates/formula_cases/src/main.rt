@@ -6,10 +6,16 @@
 // each reading every place holds false.
 #![tactic(auto)]
 
+use entering::held::Held;
 use formula::entry::Entry;
 use formula_text::reading::read;
+use formula_writing::writing::write;
 
+// The most places of a list.
 const PLACES: usize = 200;
+
+// The most places of a list that is printed whole.
+const SHORT: usize = 8;
 
 fn print_entry(rt: &HostRuntime, entry: Entry) -> anyhow::Result<()> {
     match entry {
@@ -25,18 +31,28 @@ fn print_entry(rt: &HostRuntime, entry: Entry) -> anyhow::Result<()> {
 
 // The list, or of a long one its last entry but for true and how many places hold true.
 fn print_list(rt: &HostRuntime, list: &[Entry]) -> anyhow::Result<()> {
-    if list.len() > 8 {
+    if list.len() > SHORT {
         let kept = list.iter().filter(|e| **e == Entry::True).count();
         if let Some(last) = list.iter().rfind(|e| **e != Entry::True) {
             print_entry(rt, *last)?;
         }
-        println!(rt; " and {kept} t")?;
+        print!(rt; " and {kept} t")?;
         return Ok(());
     }
     for entry in list {
         print_entry(rt, *entry)?;
     }
-    println!(rt; "")?;
+    Ok(())
+}
+
+// The formula of the last of some entries, as text.
+fn print_text(rt: &HostRuntime, entries: &[Entry]) -> anyhow::Result<()> {
+    let mut held = Held::new();
+    if let Ok(last) = held.enter(entries) {
+        if let Some(text) = write(rt.alloc(), &held, last)? {
+            print!(rt; " {}", text.as_str())?;
+        }
+    }
     Ok(())
 }
 
@@ -48,10 +64,19 @@ fn run(rt: &HostRuntime) -> anyhow::Result<()> {
         let mut list = [Entry::False; PLACES];
         let list = &mut list[..places];
         match read(text.as_bytes(), list) {
-            Ok(count) => print!(rt; "{count}:")?,
-            Err(e) => print!(rt; "{},{}:", e.number(), e.place())?,
+            Ok(count) => {
+                print!(rt; "{count}:")?;
+                print_list(rt, list)?;
+                if places <= SHORT {
+                    print_text(rt, &list[..usize::from(count)])?;
+                }
+            }
+            Err(e) => {
+                print!(rt; "{},{}:", e.number(), e.place())?;
+                print_list(rt, list)?;
+            }
         }
-        print_list(rt, list)?;
+        println!(rt; "")?;
     }
     Ok(())
 }

@@ -1,0 +1,5 @@
+// Formulas that are held, written as text.
+#![tactic(auto)]
+
+mod level;
+pub mod writing;
