@@ -67,8 +67,10 @@ fn run(rt: &HostRuntime) -> anyhow::Result<()> {
             Ok(count) => {
                 print!(rt; "{count}:")?;
                 print_list(rt, list)?;
-                if places <= SHORT {
-                    print_text(rt, &list[..usize::from(count)])?;
+                if let Some((entries, _)) = list.split_at_checked(usize::from(count)) {
+                    if places <= SHORT {
+                        print_text(rt, entries)?;
+                    }
                 }
             }
             Err(e) => {
