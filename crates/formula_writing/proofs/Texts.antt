@@ -120,3 +120,7 @@ written_three r old mid next new u v w x last second first is =
 -- A modality in its marks, and the text behind it.
 pub marked : (a b : ℕ) (t w : List ℕ) → (a ∷ (t ++ b ∷ [])) ++ w ≡ a ∷ (t ++ (b ∷ w))
 marked a b t w = ap (λ x. a ∷ x) (append_assoc t (b ∷ []) w)
+
+pub written_four : {T E : Type 0} (r : Result T E) (old one two three new t u v w x : List ℕ) → OnOk r (new ≡ three ++ w) → three ≡ two ++ v → two ≡ one ++ u → one ≡ old ++ t → t ++ (u ++ (v ++ w)) ≡ x → OnOk r (new ≡ old ++ x)
+written_four r old one two three new t u v w x last third second first is =
+    written_three r old one two new t u (v ++ w) x (on_ok_weaker r (λ h. h ∙ ap (λ m. m ++ w) third ∙ append_assoc two v w) last) second first is

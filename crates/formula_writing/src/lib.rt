@@ -1,5 +1,6 @@
-// Formulas that are held, written as text.
+// Formulas that are held or told, written as text.
 #![tactic(auto)]
 
 mod level;
+pub mod lines;
 pub mod writing;
