@@ -9,9 +9,7 @@ pub(crate) fn formula_of(alloc: Global, lines: &[Line]) -> anyhow::Result<String
     let mut texts: Vec<String> = lines.iter().map(|_| String::new(alloc)).collect(alloc)?;
     for (place, line) in lines.iter().enumerate().rev() {
         let text = text_of(alloc, *line, texts.as_slice())?;
-        if let Some(room) = texts.get_mut(place) {
-            *room = text;
-        }
+        *texts.get_mut(place).context("a line without room")? = text;
     }
     texts.into_iter().next().context("a formula without lines")
 }
