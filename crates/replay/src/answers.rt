@@ -1,7 +1,7 @@
 // The lines of each answer of a script that was run.
-use crate::told::formula_of;
 use actions::action::Action;
 use anyhow::Context;
+use formula_writing::lines::write_lines;
 use history::calls::{
     Comparing, Ending, Entering, Question, Reaching, Round, Ruling, Script, Telling,
 };
@@ -89,7 +89,7 @@ fn write_tell(alloc: Global, out: &mut String, call: &Telling) -> anyhow::Result
         Ok(count) => {
             writeln!(out, "tell,{count}")?;
             let lines = call.lines.get(..usize::from(count));
-            write_lines(alloc, out, lines.context("more lines than were lent")?)
+            add_lines(alloc, out, lines.context("more lines than were lent")?)
         }
         Err(e) => {
             writeln!(out, "refused,tell,{},0", e.number())?;
@@ -98,7 +98,7 @@ fn write_tell(alloc: Global, out: &mut String, call: &Telling) -> anyhow::Result
     }
 }
 
-fn write_lines(alloc: Global, out: &mut String, lines: &[Line]) -> anyhow::Result<()> {
+fn add_lines(alloc: Global, out: &mut String, lines: &[Line]) -> anyhow::Result<()> {
     for (number, line) in lines.iter().enumerate() {
         let modality = match line.modality {
             Modality::May => "may",
@@ -111,7 +111,8 @@ fn write_lines(alloc: Global, out: &mut String, lines: &[Line]) -> anyhow::Resul
             line.first, line.count
         )?;
     }
-    writeln!(out, "formula,{}", formula_of(alloc, lines)?)?;
+    let text = write_lines(alloc, lines)?.context("lines without a formula")?;
+    writeln!(out, "formula,{text}")?;
     Ok(())
 }
 

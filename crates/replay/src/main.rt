@@ -10,7 +10,6 @@ mod printing;
 mod questions;
 mod reading;
 mod sheets;
-mod told;
 
 use crate::gathering::Gathered;
 use crate::printing::print_run;
