@@ -1,6 +1,7 @@
 // How a file is read.
-ghost use Rattle.std.specs.Prelude.{◌≡◌, ◌≤◌, [], length, IfOk, OnErr};
+ghost use Rattle.std.specs.Prelude.{◌≡◌, ◌+◌, ◌<◌, ◌≤◌, [], ◌++◌, length, IfOk, OnErr, MatchResult};
 ghost use Rattle.files.specs.Refusals.{number_of};
+ghost use Rattle.files.specs.declared.sheet_file.FileRefusal.TheVariants.{TooLarge};
 
 use crate::sheet_file::{FileRefusal, MOST_BYTES, SheetFile};
 use bounded::Bounded;
@@ -48,6 +49,15 @@ impl SheetFile {
         self.bytes.as_slice()
     }
 
+    // Adds bytes behind those held, where there is room for all.
+    fn add(&mut self, more: &[u8]) -> Result<(), FileRefusal>
+        ensures { MatchResult result (λ _. (length self.old.bytes + length more.now ≤ 16384) × (self.new.bytes ≡ self.old.bytes ++ more.now)) (λ e. (e ≡ TooLarge) × (16384 < length self.old.bytes + length more.now) × (self.new.bytes ≡ self.old.bytes)) }
+    {
+        self.bytes
+            .extend_from_slice(more)
+            .map_err(|_| FileRefusal::TooLarge)
+    }
+
     // Reads the rest of a file, as long as it fits. Each read but the last gives a byte at least.
     fn fill(&mut self, file: &mut File) -> Result<(), FileRefusal> {
         let mut chunk = [0; 1024];
@@ -57,9 +67,7 @@ impl SheetFile {
             if count == 0 {
                 return Ok(());
             }
-            self.bytes
-                .extend_from_slice(&chunk[..count])
-                .map_err(|_| FileRefusal::TooLarge)?;
+            self.add(&chunk[..count])?;
         }
         Err(FileRefusal::TooLarge)
     }
