@@ -9,6 +9,8 @@ use crate::soundness::first_unsound;
 use formula::entry::Entry;
 use law::refusals::EnterRefusal;
 
+const MOST: usize = 128;
+
 // The entry with each entry number in it raised by n.
 fn raise(n: u8, entry: Entry) -> Entry
     requires few { n ≤ 128 }
@@ -32,9 +34,10 @@ impl Held {
         requires room { length self.old + length list.now ≤ 128 }
         ensures { self.new ≡ appended self.old list.now }
     {
-        let before = self.len();
+        let before = self.count;
         for entry in list {
-            self.entries.push(raise(before, *entry));
+            self.entries[usize::from(self.count)] = raise(before, *entry);
+            self.count += 1;
         }
     }
 
@@ -49,7 +52,7 @@ impl Held {
         if let Some(place) = first_unsound(list) {
             return Err(EnterRefusal::Unsound(place));
         }
-        if list.len() > self.entries.remaining_capacity() {
+        if list.len() > MOST - usize::from(self.len()) {
             return Err(EnterRefusal::Full);
         }
         self.append(list);

@@ -3,7 +3,6 @@ ghost use Rattle.std.specs.Prelude.{◌≡◌, ◌≤◌, [], length};
 ghost use Rattle.formula.specs.Entries.{AllSound};
 
 use crate::held::Held;
-use arrayvec::ArrayVec;
 use formula::entry::Entry;
 
 impl Held {
@@ -12,7 +11,8 @@ impl Held {
         ensures { result ≡ [] }
     {
         Held {
-            entries: ArrayVec::new(),
+            entries: [Entry::True; 128],
+            count: 0,
         }
     }
 
@@ -22,14 +22,13 @@ impl Held {
         ensures few { length result.now ≤ 128 }
         ensures sound { AllSound result.now }
     {
-        self.entries.as_slice()
+        &self.entries[0..usize::from(self.count)]
     }
 
     pub fn len(&self) -> u8
         ensures value { result ≡ length self.now }
         ensures bound { result ≤ 128 }
     {
-        // by `as`, as it fits: `try_from` would give an error that cannot come
-        self.entries.len() as u8
+        self.count
     }
 }
