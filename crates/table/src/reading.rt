@@ -15,7 +15,7 @@ impl Table {
         ensures { IfOk result (λ t. meaning t ≡ still) }
     {
         let rows = Rows::new(heap)?;
-        let index = Index::of(&rows);
+        let index = Index::none();
         Ok(Table { rows, index })
     }
 
@@ -24,7 +24,7 @@ impl Table {
         ensures { Read sheet.now (meaning self.new) result }
     {
         let read = self.rows.read(sheet);
-        self.index = Index::of(&self.rows);
+        self.index.put(&self.rows);
         read
     }
 }
