@@ -1,3 +1,4 @@
+pub mod ByteMarks
 pub mod Classes
 pub mod Apart
 pub mod Codes

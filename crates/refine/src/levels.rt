@@ -15,10 +15,11 @@ impl Classes {
         ensures parent { s ≤ slice_index self.now.names s → depth < (parting_at self.now.partings s).depth → result ≡ (parting_at self.now.partings s).parent }
     {
         let name = self.name(s);
-        let parting = self.parting(s);
         if name < s {
-            name
-        } else if parting.depth <= depth {
+            return name;
+        }
+        let parting = self.parting(s);
+        if parting.depth <= depth {
             s
         } else {
             parting.parent

@@ -8,6 +8,7 @@ use crate::level::Level;
 use crate::marks::Marks;
 use pair::graph::Graph;
 
+pub mod byte_marks;
 pub mod classes;
 mod climb;
 pub mod codes;

@@ -7,9 +7,9 @@ ghost use Rattle.telling.specs.Unlike.{WhereUnlike, first_unlike};
 use hml::line::{Line, Modality};
 use pair::graph::Graph;
 use pair::ways::Ways;
+use refine::byte_marks::ByteMarks;
 use refine::classes::{Classes, STATES};
 use refine::codes::Code;
-use refine::marks::Marks;
 
 // The move that a line is for: one of the first state under may, one of the second under must.
 #[derive(Clone, Copy)]
@@ -72,7 +72,7 @@ fn first_unlike<G: Graph>(
     s: u16,
     t: u16,
     names: &[u16; STATES],
-    marks: &mut Marks,
+    marks: &mut ByteMarks,
 ) -> Option<(u8, u16)>
     ensures { result ≡ first_unlike (G.Graph.means graph.now) names.now s t }
 {
@@ -96,7 +96,7 @@ pub(crate) struct Classified<'a, G> {
 impl<'a, G: Graph> Classified<'a, G> {
     // The line of a pair, by the names of classes at the depth before the one at which its states part: the first move
     // of s that t does not match, and else of t that s does not match.
-    pub(crate) fn choose(&self, s: u16, t: u16, marks: &mut Marks) -> Choice
+    pub(crate) fn choose(&self, s: u16, t: u16, marks: &mut ByteMarks) -> Choice
         ensures { WhereUnlike (G.Graph.means self.now.graph.now) self.now.classes.now s t (Chooses (G.Graph.means self.now.graph.now) s t result) }
     {
         let mut names = [0; STATES];

@@ -7,8 +7,8 @@ use crate::choosing::Classified;
 use crate::queue::Queue;
 use hml::line::{Line, Modality};
 use pair::graph::Graph;
+use refine::byte_marks::ByteMarks;
 use refine::classes::Classes;
-use refine::marks::Marks;
 
 // The lines do not fit.
 #[derive(Clone, Copy, PartialEq, Eq, Debug)]
@@ -30,7 +30,7 @@ impl<'a, G: Graph> Classified<'a, G> {
     {
         let mut queue = Queue::new(lines.len());
         queue.push((s, t))?;
-        let mut marks = Marks::new();
+        let mut marks = ByteMarks::new();
         let mut i = 0;
         while let Some(&(u, v)) = queue.pairs.get(usize::from(i)) {
             let given = queue.len();
