@@ -1,9 +1,11 @@
 -- A call that is answered as defined goes on from every history that led to the bench, lawfully.
-use Rattle.std.proofs.Common.{◌≡◌, ℕ, Bool, List, [], ◌∷◌, Ok, Err, Option, Result, sym, refl, subst}
+use Rattle.std.proofs.Common.{◌≡◌, ℕ, Bool, List, [], ◌∷◌, Ok, Err, Option, Result, sym, refl, subst, arith}
 use Rattle.lts.specs.Lts.{Lts, Limits}
 use Rattle.hml.specs.declared.step.Step.{Step}
 use Rattle.hml.specs.declared.line.Line.{Line}
+use Rattle.formula.specs.Entries.{AllSound}
 use Rattle.formula.specs.declared.entry.Entry.{Entry}
+use Rattle.formula.proofs.Appending.{appending_is_sound}
 use Rattle.entering.specs.Held.{HeldAfter}
 use Rattle.law.specs.Answers.{Entered, Ruled, Reached, Compared, Told}
 use Rattle.law.specs.History.{Call, Phase, History, AsDefined, Lawful, entries_held}
@@ -18,6 +20,18 @@ use Rattle.law.specs.declared.refusals.TellRefusal.{TellRefusal}
 use Rattle.law.proofs.Lawful.{every_history_is_lawful}
 use Rattle.bench.specs.Bench.{Bench, system}
 use Rattle.bench.specs.Keeping.{Kept, OpenTakes, Settles, SettledTakes, Reopens}
+
+-- The entries that a history leaves are sound.
+pub held_sound : (m : Lts) {φ : Phase} {h : List Call} → History m φ h → AllSound (entries_held h)
+held_sound m opened = λ k l. absurd (omega arith)
+held_sound m (entered {h} list (Ok n) before x) = appending_is_sound (entries_held h) list (held_sound m before) x.1
+held_sound m (entered list (Err e) before x) = held_sound m before
+held_sound m (settled before) = held_sound m before
+held_sound m (reopened before) = held_sound m before
+held_sound m (ruled f s r before x) = held_sound m before
+held_sound m (reached f s p q r before x) = held_sound m before
+held_sound m (compared s t r before x) = held_sound m before
+held_sound m (told s t p q r before x) = held_sound m before
 
 -- The entries after entering are those that the call leaves.
 held_after : (h : List Call) (list : List Entry) (r : Result ℕ EnterRefusal) (before after : List Entry) → before ≡ entries_held h → HeldAfter before list r after → after ≡ entries_held (enter list r ∷ h)

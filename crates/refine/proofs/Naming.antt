@@ -34,6 +34,10 @@ module _ (m : Lts) (r : ℕ) where
   pub names_agreeing : (s u : ℕ) → Names m r u u → Agree m r s u → Names m r s u
   names_agreeing s u h x = name_moves u s u h (agree_sym m r s u x)
 
+  -- No state below a name agrees with it.
+  pub lower_apart : (u v : ℕ) → Names m r u u → v < u → ¬ Agree m r u v
+  lower_apart u v h = h.lowest v
+
   module _ (names : List ℕ) (classed : Classed m r names) where
     abbrev at : ℕ → ℕ
     at s = get_or names s 0

@@ -2,7 +2,7 @@ use Rattle.std.proofs.Common.{◌≡◌, Ok, Err, MatchResult, rules, refl, sym,
 use Rattle.law.specs.declared.refusals.ReachRefusal.TheVariants.{PathShort}
 use Rattle.verdicts.specs.Words.{Judged}
 use Rattle.runs.specs.Reaching.{Answered}
-use Rattle.bench.specs.Bench.{Bench, system}
+use Rattle.bench.specs.Bench.{system}
 use Rattle.bench.proofs.Answering.{reached}
 use Rattle.bench.proofs.Taking.{reaching_takes}
 use Rattle.bench.proofs.settled_bench.SettledBench.reach.Goals as goal
